@@ -1,0 +1,4 @@
+pub mod Calls
+pub mod Mem
+pub mod Moves
+pub mod Streams
