@@ -1,0 +1,30 @@
+-- What is due for a text that stands for a contract.
+use Rattle.std.proofs.Common.{◌≡◌, ℕ, ◌+◌, ◌≤◌, List, [], ◌∷◌, ◌++◌, length, map, codes, Result, Ok, Err, IfOk, Vec, Global, refl, sym, ap, ◌∙◌, arith}
+use Rattle.std.proofs.lemmas.List.{length-map, length-append}
+use Rattle.sv_text.specs.declared.no_memory.NoMemory.{NoMemory}
+use Rattle.sv_cli.specs.Due.{HasForm, IsDue, limit}
+use Rattle.sv_cli.specs.Due.IsDue.{IsReported}
+use Rattle.sv_cli.specs.Judging.{AreVerdicts, Judged, judged_of, judged_function, known_at_entry}
+use Rattle.sv_cli.specs.Report.{Reports}
+use Rattle.sv_cli.specs.declared.contract.Contract.{Contract}
+use Rattle.sv_cli.specs.declared.contract.Equation.{Equation}
+use Rattle.sv_cli.specs.declared.ended.Ended.{Ended}
+use Rattle.sv_cli.specs.declared.verdict.Verdict.{Verdict}
+
+pub reported : (text : List ℕ) (c : Contract) (result : Result (Vec ℕ Global × Ended) NoMemory)
+    → length text ≤ limit → HasForm text c → IfOk result (λ due. Reports c due.0.items due.1)
+    → IfOk result (λ due. IsDue text due.0.items due.1)
+reported text c (Ok due) short form reports = IsReported short c form reports
+reported text c (Err e) short form reports = tt
+
+-- there are as many verdicts as there are to be
+as_many : (invariants : List Equation) (js : List Judged) (vs : List Verdict) → AreVerdicts invariants js vs → length vs ≡ length js
+as_many invariants [] [] are = refl
+as_many invariants [] (v ∷ vs) are = absurd are
+as_many invariants (j ∷ js) [] are = absurd are
+as_many invariants (j ∷ js) (v ∷ vs) are = omega (arith, as_many invariants js vs are.1)
+
+pub two_more : (c : Contract) (vs : List Verdict) → AreVerdicts c.invariants (judged_of c) vs → length vs ≡ length c.functions + 2
+two_more c vs are =
+    let gift : Judged = record { name = codes "(gift)"; end = known_at_entry c } in
+    omega (arith, as_many c.invariants (judged_of c) vs are, length-append (map (judged_function c) c.functions) (gift ∷ []), length-map c.functions (judged_function c))

@@ -1,0 +1,65 @@
+//! The program `solsv`: it reads a contract on standard input, judges every function of it, and writes the report.
+//!
+//! Promises: `top::solsv`, which does all that the program does but for making the adapters and the book. Its clauses say what was read,
+//! what is written and how the program ends, for every source and every sink.
+//! Stands on: `sv_text`, `sv_num`, `sv_term`, `sv_io`.
+//! Read first: `specs/Answered.antt` and `specs/Due.antt`, then `src/top.rt`.
+#![tactic(auto)]
+
+mod contract;
+mod due;
+mod ended;
+mod exact;
+mod form_error;
+mod judge;
+mod laws;
+mod moving;
+mod parse;
+mod refusal;
+mod report;
+mod reserved;
+mod row;
+mod scan;
+mod token;
+mod top;
+mod values;
+mod verdict;
+
+use ended::Ended;
+use std::process::ExitCode;
+use std::{env, io};
+use sv_io::{StdSink, StdSource};
+use sv_term::RuleBook;
+
+/// The words of the command line, without the program's own name.
+fn words(rt: &HostRuntime) -> Result<Vec<String>, Ended> {
+    match env::args(rt) {
+        Ok(args) => args
+            .skip(1)
+            .collect(rt.alloc())
+            .map_err(|_| Ended::NoMemory),
+        Err(refused) => {
+            if refused.kind() == io::ErrorKind::OutOfMemory {
+                Err(Ended::NoMemory)
+            } else {
+                Err(Ended::Usage)
+            }
+        }
+    }
+}
+
+fn main(rt: HostRuntime) -> ExitCode {
+    let ended = match words(&rt) {
+        Ok(words) => {
+            let book = RuleBook::new(rt.alloc());
+            let mut source = StdSource::new(rt.reader());
+            let mut sink = StdSink::new(io::writer(&rt));
+            top::solsv(rt.alloc(), &words, &mut source, &mut sink, &book)
+        }
+        Err(ended) => ended,
+    };
+    ExitCode::from(ended.status())
+}
+
+#[cfg(test)]
+mod tests;

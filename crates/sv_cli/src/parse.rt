@@ -1,0 +1,101 @@
+//! The contract that a list of tokens stands for.
+
+ghost use Rattle.std.specs.Prelude.{◌≡◌, ◌↔◌, ◌<◌, ◌^◌, [], length, All, Contains, IsTrue, IfOk, IfSome, IfNone, IsErrOf};
+ghost use Rattle.sv_cli.specs.FirstForm.{StandsFor, IsTaken, IsAssignment};
+ghost use Rattle.sv_cli.specs.Parts.{IsOpened, contract_part, contract_word};
+ghost use Rattle.sv_cli.specs.Reading.{Reads};
+ghost use Rattle.sv_cli.specs.declared.contract.Contract.{Contract};
+
+mod act;
+mod cursor;
+mod declare;
+mod function;
+mod header;
+mod name;
+mod note;
+mod number;
+mod sum;
+
+use crate::contract::{Act, Contract, Function};
+use crate::form_error::FormError;
+use crate::parse::cursor::{Cursor, is_token};
+use crate::parse::declare::{declare, declare_functions, declare_variables};
+use crate::parse::function::body;
+use crate::parse::header::{Header, read_header};
+use crate::parse::note::notes;
+use crate::token::{Tok, Token};
+use std::alloc::Global;
+use sv_text::Names;
+
+/// The contract that the tokens stand for.
+pub fn parse<'a>(alloc: Global, tokens: &[Token<'a>]) -> Result<Contract<'a>, FormError>
+    requires { length tokens.now < 2 ^ 31 }
+    ensures meaning { IfOk result (λ c. StandsFor tokens.now c) }
+    ensures only { IfOk result (λ c. (other : Contract) → StandsFor tokens.now other → other ≡ c) }
+    ensures unbuilt { IsErrOf result FormError.Unbuilt → (c : Contract) → StandsFor tokens.now c → ⊥ }
+{
+    let contract = parse_whole(alloc, tokens)?;
+    if !is_taken(&contract) {
+        return Err(FormError::Unbuilt);
+    }
+    Ok(contract)
+}
+
+/// The contract of the whole form.
+fn parse_whole<'a>(alloc: Global, tokens: &[Token<'a>]) -> Result<Contract<'a>, FormError>
+    requires { length tokens.now < 2 ^ 31 }
+    ensures { Reads contract_part tokens.now result [] }
+{
+    let Some((before, rest)) = split_at_contract(tokens) else {
+        return Err(FormError::Unbuilt);
+    };
+    let mut cursor = Cursor::new(rest);
+    let Header { name, variables } = read_header(alloc, &mut cursor)?;
+    let mut names = Names::new(alloc);
+    declare_variables(&mut names, variables.as_slice())?;
+    let invariants = notes(alloc, before, &names)?;
+    let functions = body(alloc, &mut cursor, &names)?;
+    declare(&mut names, name.bytes())?;
+    declare_functions(&mut names, functions.as_slice())?;
+    Ok(Contract {
+        name,
+        variables,
+        invariants,
+        functions,
+    })
+}
+
+/// The tokens before the first word `contract`, and the tokens from it on.
+fn split_at_contract<'t, 'a>(tokens: &'t [Token<'a>]) -> Option<(&'t [Token<'a>], &'t [Token<'a>])>
+    ensures cut { IfSome result (λ p. IsOpened tokens.now p.0.now p.1.now) }
+    ensures none { IfNone result (Contains tokens.now contract_word → ⊥) }
+{
+    for (at, next) in tokens.iter().enumerate() {
+        if is_token(next, Tok::Word, b"contract") {
+            return Some(tokens.split_at(at));
+        }
+    }
+    None
+}
+
+/// Whether the contract is of the part of the form that is taken so far.
+fn is_taken(contract: &Contract<'_>) -> bool
+    ensures { IsTrue result ↔ IsTaken contract.now }
+{
+    contract.invariants.len() == 1 && contract.functions.as_slice().iter().all(has_no_require)
+}
+
+fn has_no_require(function: &Function<'_>) -> bool
+    ensures { IsTrue result ↔ All IsAssignment function.now.acts }
+{
+    function.acts.as_slice().iter().all(is_assignment)
+}
+
+fn is_assignment(act: &Act) -> bool
+    ensures { IsTrue result ↔ IsAssignment act.now }
+{
+    matches!(act, Act::Assign(_, _))
+}
+
+#[cfg(test)]
+mod tests;

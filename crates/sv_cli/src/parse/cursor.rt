@@ -1,0 +1,100 @@
+ghost use Rattle.std.specs.Prelude.{◌≡◌, ◌↔◌, [], IsTrue};
+ghost use Rattle.sv_cli.specs.Parts.{at_end};
+ghost use Rattle.sv_cli.specs.Reading.{token, Begins, BeginsKind, Reads, exact, any_text};
+
+use crate::form_error::FormError;
+use crate::token::{Text, Tok, Token};
+use std::marker::Model;
+
+/// The tokens that are still to be read. A contract sees the list of them.
+#[derive(Drop)]
+pub struct Cursor<'t, 'a> {
+    rest: &'t [Token<'a>],
+}
+
+impl<'t, 'a> Model for Cursor<'t, 'a> {
+    ghost use Rattle.std.specs.Prelude.{List};
+    ghost use Rattle.sv_cli.specs.declared.token.Token.{Token};
+
+    ghost Value = { List Token };
+
+    ghost view = { λ c. c.rest.now };
+}
+
+impl<'t, 'a> Cursor<'t, 'a> {
+    pub fn new(tokens: &'t [Token<'a>]) -> Cursor<'t, 'a>
+        ensures { result ≡ tokens.now }
+    {
+        Cursor { rest: tokens }
+    }
+
+    pub fn is_at_end(&self) -> bool
+        ensures { IsTrue result ↔ (self.now ≡ []) }
+    {
+        self.rest.is_empty()
+    }
+
+    /// Whether the next token is this one.
+    pub fn sees(&self, kind: Tok, text: &[u8]) -> bool
+        ensures { IsTrue result ↔ Begins (token kind text.now) self.now }
+    {
+        match self.rest.first() {
+            Some(next) => is_token(next, kind, text),
+            None => false,
+        }
+    }
+
+    /// Whether the next token is of this kind.
+    pub fn sees_kind(&self, kind: Tok) -> bool
+        ensures { IsTrue result ↔ BeginsKind kind self.now }
+    {
+        match self.rest.first() {
+            Some(next) => next.kind == kind,
+            None => false,
+        }
+    }
+
+    /// Takes the next token, which must be this one.
+    pub fn expect(&mut self, kind: Tok, text: &[u8]) -> Result<(), FormError>
+        ensures { Reads (exact (token kind text.now)) self.old result self.new }
+    {
+        if !self.sees(kind, text) {
+            return Err(FormError::Unbuilt);
+        }
+        self.rest = &self.rest[1..];
+        Ok(())
+    }
+
+    /// Nothing is left, or it's an error.
+    pub fn expect_end(&self) -> Result<(), FormError>
+        ensures { Reads at_end self.now result [] }
+    {
+        if self.is_at_end() {
+            Ok(())
+        } else {
+            Err(FormError::Unbuilt)
+        }
+    }
+
+    /// Takes the text of the next token, which must be of this kind.
+    pub fn text(&mut self, kind: Tok) -> Result<Text<'a>, FormError>
+        ensures { Reads (any_text kind) self.old result self.new }
+    {
+        let Some(next) = self.rest.first() else {
+            return Err(FormError::Unbuilt);
+        };
+        if next.kind != kind {
+            return Err(FormError::Unbuilt);
+        }
+        let text = Text::new(next.text.bytes());
+        self.rest = &self.rest[1..];
+        Ok(text)
+    }
+}
+
+/// Whether the token has this kind and text.
+pub fn is_token(next: &Token<'_>, kind: Tok, text: &[u8]) -> bool
+    ensures { IsTrue result ↔ (next.now ≡ token kind text.now) }
+{
+    next.kind == kind && next.text.bytes() == text
+}

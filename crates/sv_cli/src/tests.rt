@@ -1,0 +1,103 @@
+// The program over sources and sinks in memory, with what is due worked by hand.
+ghost use Rattle.std.specs.Prelude.{◌-◌, ◌^◌, ◌<◌, All};
+
+use crate::ended::Ended;
+use crate::top::solsv;
+use std::alloc::Global;
+use std::test::Fail;
+use sv_io::{MemSink, MemSource};
+use sv_term::RuleBook;
+use sv_text::NoMemory;
+
+const TWO_COUNTERS: &[u8] = b"/// @notice invariant a == b
+contract C {
+    uint256 a; uint256 b;
+    function up() public { a = a + 1; b = b + 1; }
+}
+";
+
+const HELD: &[u8] = b"C.constructor: verified 1
+C.up: verified 1
+C.(gift): verified 1
+C: holds
+";
+
+/// How the program ended, and what the sink holds.
+#[derive(Drop)]
+struct Ran {
+    ended: Ended,
+    bytes: Vec<u8>,
+}
+
+/// Runs the program over a source whose pieces have 16 bytes and a sink whose pieces have 10.
+fn run(alloc: Global, text: &[u8], takes: &[u64], puts: &[u64]) -> Result<Ran, NoMemory>
+    requires takes { All (λ k. k < 2 ^ 64 - 1) takes.now }
+    requires puts { All (λ k. k < 2 ^ 64 - 1) puts.now }
+{
+    let words = Vec::new(alloc);
+    let book = RuleBook::new(alloc);
+    let failing_takes = Vec::from_slice(alloc, takes)?;
+    let failing_puts = Vec::from_slice(alloc, puts)?;
+    let mut source = MemSource::new(Vec::from_slice(alloc, text)?, 16, failing_takes);
+    let mut sink = MemSink::new(alloc, 1_048_576, 10, failing_puts)?;
+    let ended = solsv(alloc, &words, &mut source, &mut sink, &book);
+    let bytes = Vec::from_slice(alloc, sink.bytes())?;
+    Ok(Ran { ended, bytes })
+}
+
+#[test]
+fn each_answer_comes_with_its_bytes(rt: HostRuntime) -> Result<(), Fail> {
+    let alloc = rt.alloc();
+    let ran = run(alloc, TWO_COUNTERS, &[], &[])?;
+    assert_eq!(rt; ran.ended, Ended::Holds);
+    assert_eq!(rt; ran.bytes.as_slice(), HELD);
+    let ran = run(alloc, b"", &[], &[])?;
+    assert_eq!(rt; ran.ended, Ended::Refused);
+    assert_eq!(rt; ran.bytes.as_slice(), b"error 1:1 Unbuilt\n".as_slice());
+    let ran = run(alloc, TWO_COUNTERS, &[2], &[])?;
+    assert_eq!(rt; ran.ended, Ended::ReadFault);
+    assert_eq!(rt; ran.bytes.as_slice(), b"".as_slice());
+    let ran = run(alloc, TWO_COUNTERS, &[], &[3])?;
+    assert_eq!(rt; ran.ended, Ended::WriteFault);
+    assert_eq!(rt; ran.bytes.as_slice(), b"C.constructor: verif".as_slice());
+    Ok(())
+}
+
+#[test]
+fn a_byte_over_the_limit_is_too_long(rt: HostRuntime) -> Result<(), Fail> {
+    let alloc = rt.alloc();
+    let text = vec![in alloc; b' '; 1_048_577]?;
+    let ran = run(alloc, &text, &[], &[])?;
+    assert_eq!(rt; ran.ended, Ended::Refused);
+    assert_eq!(rt; ran.bytes.as_slice(), b"error 1:1 Long\n".as_slice());
+    let ran = run(alloc, &text[1..], &[], &[])?;
+    assert_eq!(rt; ran.ended, Ended::Refused);
+    assert_eq!(rt; ran.bytes.as_slice(), b"error 1:1 Unbuilt\n".as_slice());
+    Ok(())
+}
+
+#[test]
+fn words_are_refused_and_nothing_is_read(rt: HostRuntime) -> Result<(), Fail> {
+    let alloc = rt.alloc();
+    let words = vec![in alloc; String::from_str(alloc, "--help")?]?;
+    let book = RuleBook::new(alloc);
+    let mut source = MemSource::new(Vec::from_slice(alloc, TWO_COUNTERS)?, 16, Vec::new(alloc));
+    let mut sink = MemSink::new(alloc, 64, 16, Vec::new(alloc))?;
+    let ended = solsv(alloc, &words, &mut source, &mut sink, &book);
+    assert_eq!(rt; ended, Ended::Usage);
+    assert_eq!(rt; sink.bytes(), b"".as_slice());
+    Ok(())
+}
+
+// With each allocation refused in turn (`rt try --test --fail-alloc N`) the answer is want of memory, and nothing is written.
+#[test]
+fn want_of_memory_leaves_nothing_written(rt: HostRuntime) -> Result<(), Fail> {
+    let ran = run(rt.alloc(), TWO_COUNTERS, &[], &[])?;
+    if ran.ended == Ended::NoMemory {
+        assert_eq!(rt; ran.bytes.as_slice(), b"".as_slice());
+    } else {
+        assert_eq!(rt; ran.ended, Ended::Holds);
+        assert_eq!(rt; ran.bytes.as_slice(), HELD);
+    }
+    Ok(())
+}

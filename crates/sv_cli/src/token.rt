@@ -1,0 +1,53 @@
+ghost use Rattle.std.specs.Prelude.{◌≡◌};
+
+use std::marker::Model;
+
+/// A slice of the text that is read. A contract sees its bytes.
+#[derive(Drop)]
+pub struct Text<'a> {
+    bytes: &'a [u8],
+}
+
+impl<'a> Model for Text<'a> {
+    ghost use Rattle.std.specs.Prelude.{List, ℕ};
+
+    ghost Value = { List ℕ };
+
+    ghost view = { λ t. t.bytes.now };
+}
+
+impl<'a> Text<'a> {
+    pub fn new(bytes: &'a [u8]) -> Text<'a>
+        ensures { result ≡ bytes.now }
+    {
+        Text { bytes }
+    }
+
+    pub fn bytes(&self) -> &'a [u8]
+        ensures { result.now ≡ self.now }
+    {
+        self.bytes
+    }
+}
+
+/// What a token is.
+#[derive(Clone, Copy, Debug, PartialEq, Eq)]
+pub enum Tok {
+    /// A name or a keyword.
+    Word,
+    /// A decimal number.
+    Number,
+    /// Punctuation.
+    Punct,
+    /// The beginning of an annotation line; its text is the annotation's word.
+    Note,
+    /// The end of an annotation line; its text is empty.
+    End,
+}
+
+/// A token and its text.
+#[derive(Drop)]
+pub struct Token<'a> {
+    pub kind: Tok,
+    pub text: Text<'a>,
+}
