@@ -2,9 +2,9 @@
 use Rattle.std.proofs.Common.{◌≡◌, ℕ, ◌<◌, ◌≤◌, List, [], ◌++◌, codes, Contains, length, refl, sym, ap, ◌∙◌, subst, arith, Result, Ok, Err, get_or}
 use Rattle.std.proofs.lemmas.Option.{unwrap_or-slice_get}
 use Rattle.std.proofs.lemmas.List.Elements.{All-get_or}
-use Rattle.sv_cli.specs.FirstForm.{IsName, reserved, mark, word, name_at, act_tokens, IsAct, IsAssignment}
-use Rattle.sv_cli.specs.Parts.{AreNames, variable_part, value_part, equation_part, assignment_part, requirement_part, act_part, EndsActs}
-use Rattle.sv_cli.specs.Reading.{Part, IsFirst, Fails, Reads, Begins, exact, both, token}
+use Rattle.sv_cli.specs.FirstForm.{IsName, reserved, mark, word, name_at, act_tokens, IsAct}
+use Rattle.sv_cli.specs.Parts.{AreNames, variable_part, value_part, equation_part, IsAssignment, assignment_part, requirement_part, act_part, EndsActs}
+use Rattle.sv_cli.specs.Reading.{Part, IsFirst, Fails, ReadsPart, Begins, exact, both, token}
 use Rattle.sv_cli.specs.declared.contract.Act.{Act}
 use Rattle.sv_cli.specs.declared.contract.Act.TheVariants.{Assign, Require}
 use Rattle.sv_cli.specs.declared.contract.Equation.{Equation}
@@ -119,11 +119,11 @@ assignment_act_like names {ts} other =
     ] in
     record { prints = λ a. refl; forms = λ a formed. formed.0; from = from; stops = λ more stops. tt }
 
-pub requirement_reads : (names : List (List ℕ)) (r : Result Act FormError) {ts : List Token} (us : List Token) → AreNames names → Begins (word (codes "require")) ts → Reads (requirement_part names) ts r us → Reads (act_part names) ts r us
+pub requirement_reads : (names : List (List ℕ)) (r : Result Act FormError) {ts : List Token} (us : List Token) → AreNames names → Begins (word (codes "require")) ts → ReadsPart (requirement_part names) ts r us → ReadsPart (act_part names) ts r us
 requirement_reads names (Ok act) us are begins first = like_first (requirement_act_like names are begins) first
 requirement_reads names (Err e) us are begins fault = like_fails (requirement_act_like names are begins) fault
 
-pub assignment_reads : (names : List (List ℕ)) (r : Result Act FormError) {ts : List Token} (us : List Token) → (Begins (word (codes "require")) ts → ⊥) → Reads (assignment_part names) ts r us → Reads (act_part names) ts r us
+pub assignment_reads : (names : List (List ℕ)) (r : Result Act FormError) {ts : List Token} (us : List Token) → (Begins (word (codes "require")) ts → ⊥) → ReadsPart (assignment_part names) ts r us → ReadsPart (act_part names) ts r us
 assignment_reads names (Ok act) us other first = like_first (assignment_act_like names other) first
 assignment_reads names (Err e) us other fault = like_fails (assignment_act_like names other) fault
 

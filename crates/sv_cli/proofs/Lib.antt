@@ -5,9 +5,11 @@ pub mod Choices
 pub mod ColumnLemmas
 pub mod ContractLemmas
 pub mod DueText
+pub mod ExampleContract
 pub mod FormLemmas
 pub mod GivenCalls
 pub mod HeadlineProof
+pub mod HistoryLemmas
 pub mod Leaves
 pub mod Lines
 pub mod Names
@@ -24,7 +26,6 @@ pub mod Sequences
 pub mod Soundness
 pub mod Standing
 pub mod SumParts
-pub mod TestedContracts
 pub mod TextLimit
 pub mod ValueLemmas
 pub mod WeightLemmas

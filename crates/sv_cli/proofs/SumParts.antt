@@ -2,7 +2,7 @@
 use Rattle.std.proofs.Common.{◌≡◌, ℕ, ◌<◌, ◌^◌, List, [], ◌∷◌, ◌++◌, codes, length, refl, sym, ap, ◌∙◌, arith, inl, inr, Result, Ok, Err}
 use Rattle.sv_cli.specs.FirstForm.{mark, item_token, sum_tokens, IsItem, IsSide, IsValue, name_at, word}
 use Rattle.sv_cli.specs.Parts.{variable_part, number_part, item_part, further_part, side_part, value_part, equation_part, EndsSum, further_items}
-use Rattle.sv_cli.specs.Reading.{Part, IsFirst, Fails, Reads, BeginsKind, exact, any_text, both, parts, at_most, token}
+use Rattle.sv_cli.specs.Reading.{Part, IsFirst, Fails, ReadsPart, BeginsKind, exact, any_text, both, parts, at_most, token}
 use Rattle.sv_cli.specs.declared.contract.Item.{Item}
 use Rattle.sv_cli.specs.declared.contract.Item.TheVariants.{Variable, Number as NumberItem}
 use Rattle.sv_cli.specs.declared.form_error.FormError.{FormError}
@@ -162,10 +162,10 @@ module _ (names : List (List ℕ)) {ts : List Token} where
   equation_fails fault = like_fails (equation_like names) fault
 
 -- a part that is read last, with what its reading answers
-pub further_reads : (names : List (List ℕ)) (r : Result Item FormError) {ts us : List Token} (vs : List Token) → IsFirst (exact (mark (codes "+"))) ts tt us → Reads (item_part names) us r vs → Reads (further_part names) ts r vs
+pub further_reads : (names : List (List ℕ)) (r : Result Item FormError) {ts us : List Token} (vs : List Token) → IsFirst (exact (mark (codes "+"))) ts tt us → ReadsPart (item_part names) us r vs → ReadsPart (further_part names) ts r vs
 further_reads names (Ok item) vs plus first = further_first names (both_first (exact_precedes _ _) plus first)
 further_reads names (Err e) vs plus fault = further_fails names (both_fails_late (exact_precedes _ _) plus fault)
 
-pub side_value_reads : (names : List (List ℕ)) (r : Result (List Item) FormError) {ts : List Token} (us : List Token) → (BeginsKind Number ts → ⊥) → Reads (side_part names) ts r us → Reads (value_part names) ts r us
+pub side_value_reads : (names : List (List ℕ)) (r : Result (List Item) FormError) {ts : List Token} (us : List Token) → (BeginsKind Number ts → ⊥) → ReadsPart (side_part names) ts r us → ReadsPart (value_part names) ts r us
 side_value_reads names (Ok sum) us other first = side_value_first names other first
 side_value_reads names (Err e) us other fault = side_value_fails names other fault

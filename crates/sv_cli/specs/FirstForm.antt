@@ -118,17 +118,7 @@ pub record IsContract (c : Contract) : Type 0 where
   pub invariants : All (IsEquation (length c.variables)) c.invariants
   pub functions : All (IsFunction (length c.variables)) c.functions
 
--- no `require`
-abbrev pub IsAssignment : Act → Type 0
-IsAssignment (Assign v sum) = Unit {0}
-IsAssignment (Require e) = ⊥
-
--- the part of the form that is taken so far: one invariant, and no `require`
-abbrev pub IsTaken : Contract → Type 0
-IsTaken c = (length c.invariants ≡ 1) × All (λ f. All IsAssignment f.acts) c.functions
-
 -- the tokens are those of this contract, which has the first form
 pub record StandsFor (tokens : List Token) (c : Contract) : Type 0 where
   pub spelled : tokens ≡ contract_tokens c
   pub form : IsContract c
-  pub taken : IsTaken c

@@ -12,6 +12,7 @@ pub mod History
 pub mod Headline
 pub mod Value
 pub mod Laws
+pub mod Marks
 pub mod Moving
 pub mod ScanParts
 pub mod Reading

@@ -1,9 +1,10 @@
 -- The parts of a contract of the first form. They serve the proof of the parser.
 use Rattle.std.specs.Prelude.{◌≡◌, ◌≢◌, ℕ, ◌<◌, ◌^◌, List, [], ◌∷◌, ◌++◌, All, AllPairs, Contains, codes, length, Result, Ok, Err}
 use Rattle.std.specs.List.{flat_map}
-use Rattle.sv_cli.specs.FirstForm.{IsName, IsContract, IsItem, IsSide, IsValue, IsEquation, IsAct, IsAssignment, IsFunction, word, number, mark, name_at, item_token, sum_tokens, equation_tokens, note_tokens, variable_tokens, act_tokens, function_tokens, contract_tokens}
+use Rattle.sv_cli.specs.FirstForm.{IsName, IsContract, IsItem, IsSide, IsValue, IsEquation, IsAct, IsFunction, word, number, mark, name_at, item_token, sum_tokens, equation_tokens, note_tokens, variable_tokens, act_tokens, function_tokens, contract_tokens}
 use Rattle.sv_cli.specs.Reading.{Part, Begins, anything, parts, at_most}
 use Rattle.sv_cli.specs.declared.contract.Act.{Act}
+use Rattle.sv_cli.specs.declared.contract.Act.TheVariants.{Assign, Require}
 use Rattle.sv_cli.specs.declared.contract.Contract.{Contract}
 use Rattle.sv_cli.specs.declared.contract.Equation.{Equation}
 use Rattle.sv_cli.specs.declared.contract.Function.{Function}
@@ -53,6 +54,11 @@ note_part names = record { print = note_tokens names; Formed = IsEquation (lengt
 
 unfoldable pub declaration_part : Part (List ℕ)
 declaration_part = record { print = variable_tokens; Formed = λ _. Unit {0}; Stops = anything }
+
+-- an act that is no `require`
+abbrev pub IsAssignment : Act → Type 0
+IsAssignment (Assign v sum) = Unit {0}
+IsAssignment (Require e) = ⊥
 
 unfoldable pub assignment_part : List (List ℕ) → Part Act
 assignment_part names = record { print = act_tokens names; Formed = λ a. IsAct (length names) a × IsAssignment a; Stops = anything }

@@ -40,9 +40,9 @@ pub data Fails {X : Type 0} (part : Part X) (tokens : List Token) : FormError �
   no_memory : Fails part tokens NoMemory
 
 -- the part that was read, or why none was
-abbrev pub Reads : {X : Type 0} → Part X → List Token → Result X FormError → List Token → Type 0
-Reads part old (Ok x) new = IsFirst part old x new
-Reads part old (Err e) new = Fails part old e
+abbrev pub ReadsPart : {X : Type 0} → Part X → List Token → Result X FormError → List Token → Type 0
+ReadsPart part old (Ok x) new = IsFirst part old x new
+ReadsPart part old (Err e) new = Fails part old e
 
 -- what may stand before anything
 abbrev pub anything : List Token → Type 0

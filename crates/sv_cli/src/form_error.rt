@@ -5,8 +5,8 @@ use thiserror::Error;
 /// Why a text isn't read as a contract.
 #[derive(Clone, Copy, Debug, PartialEq, Eq, Drop, Error)]
 pub enum FormError {
-    /// The text doesn't have the form that is taken.
-    #[error("not of the form that is taken")]
+    /// The text doesn't have the form that is read.
+    #[error("not of the form that is read")]
     Unbuilt,
     /// Memory ran out.
     #[error("out of memory")]

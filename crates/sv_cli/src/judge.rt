@@ -133,6 +133,3 @@ pub fn judge(alloc: Global, contract: &Contract<'_>) -> Result<Vec<Verdict>, NoM
     verdicts.push(gift.verdict(alloc, invariants)?)?;
     Ok(verdicts)
 }
-
-#[cfg(test)]
-mod tests;

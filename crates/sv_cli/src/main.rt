@@ -11,6 +11,7 @@ mod due;
 mod ended;
 mod exact;
 mod form_error;
+mod history;
 mod judge;
 mod laws;
 mod moving;
@@ -24,6 +25,7 @@ mod token;
 mod top;
 mod values;
 mod verdict;
+mod wide;
 
 use ended::Ended;
 use std::process::ExitCode;

@@ -1,9 +1,9 @@
 //! The contract that a list of tokens stands for.
 
-ghost use Rattle.std.specs.Prelude.{◌≡◌, ◌↔◌, ◌<◌, ◌^◌, [], length, All, Contains, IsTrue, IfOk, IfSome, IfNone, IsErrOf};
-ghost use Rattle.sv_cli.specs.FirstForm.{StandsFor, IsTaken, IsAssignment};
+ghost use Rattle.std.specs.Prelude.{◌≡◌, ◌<◌, ◌^◌, [], length, Contains, IfOk, IfSome, IfNone, IsErrOf};
+ghost use Rattle.sv_cli.specs.FirstForm.{StandsFor};
 ghost use Rattle.sv_cli.specs.Parts.{IsOpened, contract_part, contract_word};
-ghost use Rattle.sv_cli.specs.Reading.{Reads};
+ghost use Rattle.sv_cli.specs.Reading.{ReadsPart};
 ghost use Rattle.sv_cli.specs.declared.contract.Contract.{Contract};
 
 mod act;
@@ -16,7 +16,7 @@ mod note;
 mod number;
 mod sum;
 
-use crate::contract::{Act, Contract, Function};
+use crate::contract::Contract;
 use crate::form_error::FormError;
 use crate::parse::cursor::{Cursor, is_token};
 use crate::parse::declare::{declare, declare_functions, declare_variables};
@@ -34,17 +34,13 @@ pub fn parse<'a>(alloc: Global, tokens: &[Token<'a>]) -> Result<Contract<'a>, Fo
     ensures only { IfOk result (λ c. (other : Contract) → StandsFor tokens.now other → other ≡ c) }
     ensures unbuilt { IsErrOf result FormError.Unbuilt → (c : Contract) → StandsFor tokens.now c → ⊥ }
 {
-    let contract = parse_whole(alloc, tokens)?;
-    if !is_taken(&contract) {
-        return Err(FormError::Unbuilt);
-    }
-    Ok(contract)
+    parse_whole(alloc, tokens)
 }
 
 /// The contract of the whole form.
 fn parse_whole<'a>(alloc: Global, tokens: &[Token<'a>]) -> Result<Contract<'a>, FormError>
     requires { length tokens.now < 2 ^ 31 }
-    ensures { Reads contract_part tokens.now result [] }
+    ensures { ReadsPart contract_part tokens.now result [] }
 {
     let Some((before, rest)) = split_at_contract(tokens) else {
         return Err(FormError::Unbuilt);
@@ -76,25 +72,6 @@ fn split_at_contract<'t, 'a>(tokens: &'t [Token<'a>]) -> Option<(&'t [Token<'a>]
         }
     }
     None
-}
-
-/// Whether the contract is of the part of the form that is taken so far.
-fn is_taken(contract: &Contract<'_>) -> bool
-    ensures { IsTrue result ↔ IsTaken contract.now }
-{
-    contract.invariants.len() == 1 && contract.functions.as_slice().iter().all(has_no_require)
-}
-
-fn has_no_require(function: &Function<'_>) -> bool
-    ensures { IsTrue result ↔ All IsAssignment function.now.acts }
-{
-    function.acts.as_slice().iter().all(is_assignment)
-}
-
-fn is_assignment(act: &Act) -> bool
-    ensures { IsTrue result ↔ IsAssignment act.now }
-{
-    matches!(act, Act::Assign(_, _))
 }
 
 #[cfg(test)]

@@ -10,7 +10,7 @@ use sv_text::NoMemory;
 pub enum Refusal {
     /// It is over the limit.
     Long,
-    /// It doesn't have the form that is taken so far.
+    /// It doesn't have the form that is read.
     Unbuilt,
 }
 

@@ -101,3 +101,90 @@ fn want_of_memory_leaves_nothing_written(rt: HostRuntime) -> Result<(), Fail> {
     }
     Ok(())
 }
+
+/// A contract of two variables under these notes, with a function of these acts.
+fn contract(alloc: Global, notes: &str, acts: &str) -> Result<String, NoMemory> {
+    Ok(format!(in alloc;
+        "{notes}contract C {{ uint256 a; uint256 b; function f() public {{ {acts} }} }}"
+    )?)
+}
+
+const EQUAL: &str = "/// @notice invariant a == b\n";
+
+/// Notes, acts, and what is said of the constructor, of the function, of `(gift)` and of the contract.
+const VERDICTS: [(&str, &str, [&str; 4]); 9] = [
+    (
+        EQUAL,
+        "a = a + 1; b = b + 1;",
+        ["verified 1", "verified 1", "verified 1", "holds"],
+    ),
+    (
+        EQUAL,
+        "a = a + 1;",
+        [
+            "verified 1",
+            "unproved invariant 1 at end",
+            "verified 1",
+            "unheld",
+        ],
+    ),
+    (
+        EQUAL,
+        "a = b; b = a;",
+        ["verified 1", "verified 1", "verified 1", "holds"],
+    ),
+    (
+        EQUAL,
+        "b = 3; a = b + 0;",
+        ["verified 1", "verified 1", "verified 1", "holds"],
+    ),
+    (
+        "",
+        "a = a + 1;",
+        ["verified 0", "verified 0", "verified 0", "holds"],
+    ),
+    (
+        "/// @notice invariant a == b\n/// @notice invariant a == b + 1\n",
+        "b = a;",
+        [
+            "unproved invariant 2 at end",
+            "unproved invariant 2 at end",
+            "verified 2",
+            "unheld",
+        ],
+    ),
+    (
+        EQUAL,
+        "a = a + 1; require(a == b);",
+        ["verified 1", "verified 1", "verified 1", "holds"],
+    ),
+    (
+        EQUAL,
+        "require(b == a + 1); a = a + 1;",
+        ["verified 1", "verified 1", "verified 1", "holds"],
+    ),
+    (
+        EQUAL,
+        "require(a == b + 1); a = a + 1;",
+        [
+            "verified 1",
+            "unproved invariant 1 at end",
+            "verified 1",
+            "unheld",
+        ],
+    ),
+];
+
+#[test]
+fn verdicts_worked_by_hand(rt: HostRuntime) -> Result<(), Fail> {
+    let alloc = rt.alloc();
+    for (notes, acts, [constructor, function, gift, last]) in VERDICTS.iter() {
+        let text = contract(alloc, *notes, *acts)?;
+        let ran = run(alloc, text.as_bytes(), &[], &[])?;
+        let due = format!(in alloc;
+            "C.constructor: {constructor}\nC.f: {function}\nC.(gift): {gift}\nC: {last}\n"
+        )?;
+        assert!(rt; ran.bytes.as_slice() == due.as_bytes(), "{notes}{acts}");
+    }
+    Ok(())
+}

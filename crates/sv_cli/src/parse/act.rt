@@ -3,7 +3,7 @@
 
 ghost use Rattle.std.specs.Prelude.{◌≡◌};
 ghost use Rattle.sv_cli.specs.Parts.{AreNames, assignment_part, requirement_part, act_part, acts_part};
-ghost use Rattle.sv_cli.specs.Reading.{Reads};
+ghost use Rattle.sv_cli.specs.Reading.{ReadsPart};
 
 use crate::contract::Act;
 use crate::form_error::FormError;
@@ -21,7 +21,7 @@ pub fn acts(
     names: &Names,
 ) -> Result<Items<Act>, FormError>
     requires { AreNames names.now }
-    ensures { Reads (acts_part names.now) cursor.old result cursor.new }
+    ensures { ReadsPart (acts_part names.now) cursor.old result cursor.new }
 {
     let mut acts = Items::new(alloc);
     'acts: while !cursor.sees(Tok::Punct, b"}") {
@@ -36,7 +36,7 @@ pub fn acts(
 
 fn act(alloc: Global, cursor: &mut Cursor<'_, '_>, names: &Names) -> Result<Act, FormError>
     requires { AreNames names.now }
-    ensures { Reads (act_part names.now) cursor.old result cursor.new }
+    ensures { ReadsPart (act_part names.now) cursor.old result cursor.new }
 {
     if cursor.sees(Tok::Word, b"require") {
         requirement(alloc, cursor, names)
@@ -47,7 +47,7 @@ fn act(alloc: Global, cursor: &mut Cursor<'_, '_>, names: &Names) -> Result<Act,
 
 fn assignment(alloc: Global, cursor: &mut Cursor<'_, '_>, names: &Names) -> Result<Act, FormError>
     requires { AreNames names.now }
-    ensures { Reads (assignment_part names.now) cursor.old result cursor.new }
+    ensures { ReadsPart (assignment_part names.now) cursor.old result cursor.new }
 {
     let target = variable(cursor, names)?;
     cursor.expect(Tok::Punct, b"=")?;
@@ -58,7 +58,7 @@ fn assignment(alloc: Global, cursor: &mut Cursor<'_, '_>, names: &Names) -> Resu
 
 fn requirement(alloc: Global, cursor: &mut Cursor<'_, '_>, names: &Names) -> Result<Act, FormError>
     requires { AreNames names.now }
-    ensures { Reads (requirement_part names.now) cursor.old result cursor.new }
+    ensures { ReadsPart (requirement_part names.now) cursor.old result cursor.new }
 {
     cursor.expect(Tok::Word, b"require")?;
     cursor.expect(Tok::Punct, b"(")?;

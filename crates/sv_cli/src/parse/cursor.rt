@@ -1,6 +1,6 @@
 ghost use Rattle.std.specs.Prelude.{◌≡◌, ◌↔◌, [], IsTrue};
 ghost use Rattle.sv_cli.specs.Parts.{at_end};
-ghost use Rattle.sv_cli.specs.Reading.{token, Begins, BeginsKind, Reads, exact, any_text};
+ghost use Rattle.sv_cli.specs.Reading.{token, Begins, BeginsKind, ReadsPart, exact, any_text};
 
 use crate::form_error::FormError;
 use crate::token::{Text, Tok, Token};
@@ -56,7 +56,7 @@ impl<'t, 'a> Cursor<'t, 'a> {
 
     /// Takes the next token, which must be this one.
     pub fn expect(&mut self, kind: Tok, text: &[u8]) -> Result<(), FormError>
-        ensures { Reads (exact (token kind text.now)) self.old result self.new }
+        ensures { ReadsPart (exact (token kind text.now)) self.old result self.new }
     {
         if !self.sees(kind, text) {
             return Err(FormError::Unbuilt);
@@ -67,7 +67,7 @@ impl<'t, 'a> Cursor<'t, 'a> {
 
     /// Nothing is left, or it's an error.
     pub fn expect_end(&self) -> Result<(), FormError>
-        ensures { Reads at_end self.now result [] }
+        ensures { ReadsPart at_end self.now result [] }
     {
         if self.is_at_end() {
             Ok(())
@@ -78,7 +78,7 @@ impl<'t, 'a> Cursor<'t, 'a> {
 
     /// Takes the text of the next token, which must be of this kind.
     pub fn text(&mut self, kind: Tok) -> Result<Text<'a>, FormError>
-        ensures { Reads (any_text kind) self.old result self.new }
+        ensures { ReadsPart (any_text kind) self.old result self.new }
     {
         let Some(next) = self.rest.first() else {
             return Err(FormError::Unbuilt);

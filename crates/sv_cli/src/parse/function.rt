@@ -3,7 +3,7 @@
 
 ghost use Rattle.std.specs.Prelude.{◌≡◌, []};
 ghost use Rattle.sv_cli.specs.Parts.{AreNames, function_part, functions_part, body_part};
-ghost use Rattle.sv_cli.specs.Reading.{Reads};
+ghost use Rattle.sv_cli.specs.Reading.{ReadsPart};
 
 use crate::contract::Function;
 use crate::form_error::FormError;
@@ -21,7 +21,7 @@ pub fn body<'a>(
     names: &Names,
 ) -> Result<Items<Function<'a>>, FormError>
     requires { AreNames names.now }
-    ensures { Reads (body_part names.now) cursor.old result [] }
+    ensures { ReadsPart (body_part names.now) cursor.old result [] }
 {
     let functions = functions(alloc, cursor, names)?;
     cursor.expect(Tok::Punct, b"}")?;
@@ -35,7 +35,7 @@ fn functions<'a>(
     names: &Names,
 ) -> Result<Items<Function<'a>>, FormError>
     requires { AreNames names.now }
-    ensures { Reads (functions_part names.now) cursor.old result cursor.new }
+    ensures { ReadsPart (functions_part names.now) cursor.old result cursor.new }
 {
     let mut functions = Items::new(alloc);
     'functions: while cursor.sees(Tok::Word, b"function") {
@@ -51,7 +51,7 @@ fn function<'a>(
     names: &Names,
 ) -> Result<Function<'a>, FormError>
     requires { AreNames names.now }
-    ensures { Reads (function_part names.now) cursor.old result cursor.new }
+    ensures { ReadsPart (function_part names.now) cursor.old result cursor.new }
 {
     cursor.expect(Tok::Word, b"function")?;
     let name = cursor.text(Tok::Word)?;

@@ -3,7 +3,7 @@
 
 ghost use Rattle.std.specs.Prelude.{◌≡◌};
 ghost use Rattle.sv_cli.specs.Parts.{declaration_part, declarations_part, header_part};
-ghost use Rattle.sv_cli.specs.Reading.{Reads};
+ghost use Rattle.sv_cli.specs.Reading.{ReadsPart};
 
 use crate::form_error::FormError;
 use crate::parse::cursor::Cursor;
@@ -20,7 +20,7 @@ pub struct Header<'a> {
 
 /// The header. Its names are not looked at.
 pub fn read_header<'a>(alloc: Global, cursor: &mut Cursor<'_, 'a>) -> Result<Header<'a>, FormError>
-    ensures { Reads header_part cursor.old result cursor.new }
+    ensures { ReadsPart header_part cursor.old result cursor.new }
 {
     cursor.expect(Tok::Word, b"contract")?;
     let name = cursor.text(Tok::Word)?;
@@ -33,7 +33,7 @@ fn declarations<'a>(
     alloc: Global,
     cursor: &mut Cursor<'_, 'a>,
 ) -> Result<Items<Text<'a>>, FormError>
-    ensures { Reads declarations_part cursor.old result cursor.new }
+    ensures { ReadsPart declarations_part cursor.old result cursor.new }
 {
     let mut variables = Items::new(alloc);
     'variables: while cursor.sees(Tok::Word, b"uint256") {
@@ -44,7 +44,7 @@ fn declarations<'a>(
 }
 
 fn declaration<'a>(cursor: &mut Cursor<'_, 'a>) -> Result<Text<'a>, FormError>
-    ensures { Reads declaration_part cursor.old result cursor.new }
+    ensures { ReadsPart declaration_part cursor.old result cursor.new }
 {
     cursor.expect(Tok::Word, b"uint256")?;
     let name = cursor.text(Tok::Word)?;

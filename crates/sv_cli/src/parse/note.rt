@@ -3,7 +3,7 @@
 
 ghost use Rattle.std.specs.Prelude.{◌≡◌, []};
 ghost use Rattle.sv_cli.specs.Parts.{AreNames, note_part, notes_part};
-ghost use Rattle.sv_cli.specs.Reading.{Reads};
+ghost use Rattle.sv_cli.specs.Reading.{ReadsPart};
 
 use crate::contract::Equation;
 use crate::form_error::FormError;
@@ -21,7 +21,7 @@ pub fn notes(
     names: &Names,
 ) -> Result<Items<Equation>, FormError>
     requires { AreNames names.now }
-    ensures { Reads (notes_part names.now) tokens.now result [] }
+    ensures { ReadsPart (notes_part names.now) tokens.now result [] }
 {
     let mut cursor = Cursor::new(tokens);
     let mut notes = Items::new(alloc);
@@ -34,7 +34,7 @@ pub fn notes(
 
 fn note(alloc: Global, cursor: &mut Cursor<'_, '_>, names: &Names) -> Result<Equation, FormError>
     requires { AreNames names.now }
-    ensures { Reads (note_part names.now) cursor.old result cursor.new }
+    ensures { ReadsPart (note_part names.now) cursor.old result cursor.new }
 {
     cursor.expect(Tok::Note, b"invariant")?;
     let equation = equation(alloc, cursor, names)?;

@@ -3,7 +3,7 @@
 
 ghost use Rattle.std.specs.Prelude.{◌≡◌, ◌∷◌, ◌≤◌, IfOk, length};
 ghost use Rattle.sv_cli.specs.Parts.{AreNames, variable_part, number_part, item_part, further_part, further_items, side_part, value_part, equation_part};
-ghost use Rattle.sv_cli.specs.Reading.{Reads};
+ghost use Rattle.sv_cli.specs.Reading.{ReadsPart};
 
 use crate::contract::{Equation, Item, Sum};
 use crate::form_error::FormError;
@@ -17,7 +17,7 @@ use sv_text::Names;
 /// A variable, by its place among the names.
 pub fn variable(cursor: &mut Cursor<'_, '_>, names: &Names) -> Result<usize, FormError>
     requires { AreNames names.now }
-    ensures { Reads (variable_part names.now) cursor.old result cursor.new }
+    ensures { ReadsPart (variable_part names.now) cursor.old result cursor.new }
 {
     let text = cursor.text(Tok::Word)?;
     match names.find(text.bytes()) {
@@ -27,7 +27,7 @@ pub fn variable(cursor: &mut Cursor<'_, '_>, names: &Names) -> Result<usize, For
 }
 
 fn number(cursor: &mut Cursor<'_, '_>) -> Result<u64, FormError>
-    ensures { Reads number_part cursor.old result cursor.new }
+    ensures { ReadsPart number_part cursor.old result cursor.new }
 {
     let text = cursor.text(Tok::Number)?;
     match number_of(text.bytes()) {
@@ -38,7 +38,7 @@ fn number(cursor: &mut Cursor<'_, '_>) -> Result<u64, FormError>
 
 fn item(cursor: &mut Cursor<'_, '_>, names: &Names) -> Result<Item, FormError>
     requires { AreNames names.now }
-    ensures { Reads (item_part names.now) cursor.old result cursor.new }
+    ensures { ReadsPart (item_part names.now) cursor.old result cursor.new }
 {
     if cursor.sees_kind(Tok::Word) {
         Ok(Item::Variable(variable(cursor, names)?))
@@ -50,7 +50,7 @@ fn item(cursor: &mut Cursor<'_, '_>, names: &Names) -> Result<Item, FormError>
 /// An item and the plus before it.
 fn further(cursor: &mut Cursor<'_, '_>, names: &Names) -> Result<Item, FormError>
     requires { AreNames names.now }
-    ensures { Reads (further_part names.now) cursor.old result cursor.new }
+    ensures { ReadsPart (further_part names.now) cursor.old result cursor.new }
 {
     cursor.expect(Tok::Punct, b"+")?;
     item(cursor, names)
@@ -63,7 +63,7 @@ fn further_items(
     names: &Names,
 ) -> Result<Sum, FormError>
     requires { AreNames names.now }
-    ensures { Reads (further_items names.now) cursor.old result cursor.new }
+    ensures { ReadsPart (further_items names.now) cursor.old result cursor.new }
 {
     let mut items = Items::new(alloc);
     'items: while cursor.sees(Tok::Punct, b"+") {
@@ -89,7 +89,7 @@ fn sum_of(alloc: Global, first: Item, further: Sum) -> Result<Sum, AllocError>
 /// A variable and what is added to it.
 pub fn side(alloc: Global, cursor: &mut Cursor<'_, '_>, names: &Names) -> Result<Sum, FormError>
     requires { AreNames names.now }
-    ensures { Reads (side_part names.now) cursor.old result cursor.new }
+    ensures { ReadsPart (side_part names.now) cursor.old result cursor.new }
 {
     let first = variable(cursor, names)?;
     let further = further_items(alloc, cursor, names)?;
@@ -100,7 +100,7 @@ pub fn side(alloc: Global, cursor: &mut Cursor<'_, '_>, names: &Names) -> Result
 /// A side, or a number alone.
 pub fn value(alloc: Global, cursor: &mut Cursor<'_, '_>, names: &Names) -> Result<Sum, FormError>
     requires { AreNames names.now }
-    ensures { Reads (value_part names.now) cursor.old result cursor.new }
+    ensures { ReadsPart (value_part names.now) cursor.old result cursor.new }
 {
     if !cursor.sees_kind(Tok::Number) {
         return side(alloc, cursor, names);
@@ -117,7 +117,7 @@ pub fn equation(
     names: &Names,
 ) -> Result<Equation, FormError>
     requires { AreNames names.now }
-    ensures { Reads (equation_part names.now) cursor.old result cursor.new }
+    ensures { ReadsPart (equation_part names.now) cursor.old result cursor.new }
 {
     let left = side(alloc, cursor, names)?;
     cursor.expect(Tok::Punct, b"==")?;

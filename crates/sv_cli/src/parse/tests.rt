@@ -1,5 +1,5 @@
 use super::*;
-use crate::contract::Item;
+use crate::contract::{Act, Item};
 use crate::token::Text;
 use std::test::Fail;
 
@@ -37,15 +37,14 @@ fn tokens_of<'a>(alloc: Global, text: &'a str) -> Result<Vec<Token<'a>>, Fail> {
     Ok(tokens)
 }
 
-/// Whether the text is taken, and whether it has the whole form.
-fn answers(alloc: Global, text: &str) -> Result<(bool, bool), Fail> {
+/// Whether the text has the first form.
+fn has_form(alloc: Global, text: &str) -> Result<bool, Fail> {
     let tokens = tokens_of(alloc, text)?;
     if tokens.len() > 1000 {
         return Err(FormError::NoMemory)?;
     }
-    let taken = parse(alloc, tokens.as_slice());
-    let whole = parse_whole(alloc, tokens.as_slice());
-    Ok((taken.is_ok(), whole.is_ok()))
+    let contract = parse(alloc, tokens.as_slice());
+    Ok(contract.is_ok())
 }
 
 /// A contract of one variable whose function has so many statements.
@@ -101,128 +100,110 @@ fn counters_are_read(rt: HostRuntime) -> Result<(), Fail> {
     Ok(())
 }
 
-/// Texts, with whether each is taken and whether it has the whole form.
-const CASES: [(&str, (bool, bool)); 38] = [
-    (COUNTERS, (true, true)),
-    ("@ a == a . contract C { uint256 a ; }", (true, true)),
+/// Texts, with whether each has the first form.
+const CASES: [(&str, bool); 38] = [
+    (COUNTERS, true),
+    ("@ a == a . contract C { uint256 a ; }", true),
     (
         "@ a == a . contract C { uint256 a ; function f ( ) public { } }",
-        (true, true),
+        true,
     ),
     (
         "@ abcdefgh == abcdefgh . contract C { uint256 abcdefgh ; }",
-        (true, true),
+        true,
     ),
-    (
-        "@ a + a + 1 + 0 == a . contract C { uint256 a ; }",
-        (true, true),
-    ),
+    ("@ a + a + 1 + 0 == a . contract C { uint256 a ; }", true),
     (
         "@ a == a + 999999999999999999 . contract C { uint256 a ; }",
-        (true, true),
+        true,
     ),
     (
         "@ a == a . contract C { uint256 a ; function f ( ) public { a = 7 ; } }",
-        (true, true),
+        true,
     ),
-    // the cut
-    ("contract C { }", (false, true)),
-    ("contract C { uint256 a ; }", (false, true)),
-    (
-        "@ a == a . @ a == a . contract C { uint256 a ; }",
-        (false, true),
-    ),
+    // any number of invariants, and `require`
+    ("contract C { }", true),
+    ("contract C { uint256 a ; }", true),
+    ("@ a == a . @ a == a . contract C { uint256 a ; }", true),
     (
         "@ a == a . contract C { uint256 a ; function f ( ) public { require ( a == a ) ; } }",
-        (false, true),
+        true,
     ),
     // names
-    (
-        "@ a == a . contract C { uint256 a ; uint256 a ; }",
-        (false, false),
-    ),
-    ("@ a == a . contract a { uint256 a ; }", (false, false)),
+    ("@ a == a . contract C { uint256 a ; uint256 a ; }", false),
+    ("@ a == a . contract a { uint256 a ; }", false),
     (
         "@ a == a . contract C { uint256 a ; function a ( ) public { } }",
-        (false, false),
+        false,
     ),
     (
         "@ a == a . contract C { uint256 a ; function C ( ) public { } }",
-        (false, false),
+        false,
     ),
     (
         "@ a == a . contract C { uint256 a ; function f ( ) public { } function f ( ) public { } }",
-        (false, false),
+        false,
     ),
-    (
-        "@ view == view . contract C { uint256 view ; }",
-        (false, false),
-    ),
-    ("@ a == a . contract public { uint256 a ; }", (false, false)),
+    ("@ view == view . contract C { uint256 view ; }", false),
+    ("@ a == a . contract public { uint256 a ; }", false),
     (
         "@ a == a . contract C { uint256 a ; function value ( ) public { } }",
-        (false, false),
+        false,
     ),
     (
         "@ a == a . contract C { uint256 a ; function abcdefghi ( ) public { } }",
-        (false, false),
+        false,
     ),
     (
         "@ a == a . contract C { uint256 a ; function f1 ( ) public { } }",
-        (false, false),
+        false,
     ),
-    (
-        "@ contract == a . contract C { uint256 a ; }",
-        (false, false),
-    ),
-    ("@ a == b . contract C { uint256 a ; }", (false, false)),
+    ("@ contract == a . contract C { uint256 a ; }", false),
+    ("@ a == b . contract C { uint256 a ; }", false),
     (
         "@ a == a . contract C { uint256 a ; function f ( ) public { b = a ; } }",
-        (false, false),
+        false,
     ),
     // sums and numbers
     (
         "@ a + a + a + a + a == a . contract C { uint256 a ; }",
-        (false, false),
+        false,
     ),
     (
         "@ a == a + 1000000000000000000 . contract C { uint256 a ; }",
-        (false, false),
+        false,
     ),
-    ("@ a == a + 01 . contract C { uint256 a ; }", (false, false)),
-    (
-        "@ a == a + 1e3 . contract C { uint256 a ; }",
-        (false, false),
-    ),
-    ("@ a == 1 . contract C { uint256 a ; }", (false, false)),
-    ("@ 1 == a . contract C { uint256 a ; }", (false, false)),
+    ("@ a == a + 01 . contract C { uint256 a ; }", false),
+    ("@ a == a + 1e3 . contract C { uint256 a ; }", false),
+    ("@ a == 1 . contract C { uint256 a ; }", false),
+    ("@ 1 == a . contract C { uint256 a ; }", false),
     (
         "@ a == a . contract C { uint256 a ; function f ( ) public { a = 1 + a ; } }",
-        (false, false),
+        false,
     ),
     (
         "@ a == a . contract C { uint256 a ; function f ( ) public { a = a + ; } }",
-        (false, false),
+        false,
     ),
     // what stands where
-    ("", (false, false)),
-    ("@ a == a contract C { uint256 a ; }", (false, false)),
-    ("@ a == a . contract C { uint256 a ; ", (false, false)),
-    ("@ a == a . contract C { uint256 a ; } }", (false, false)),
+    ("", false),
+    ("@ a == a contract C { uint256 a ; }", false),
+    ("@ a == a . contract C { uint256 a ; ", false),
+    ("@ a == a . contract C { uint256 a ; } }", false),
     (
         "@ a == a . contract C { uint256 a ; function f ( ) public { a = a ; }",
-        (false, false),
+        false,
     ),
     (
         "@ a == a . contract C { function f ( ) public { } uint256 a ; }",
-        (false, false),
+        false,
     ),
 ];
 
 #[test]
 fn texts_are_told_apart(rt: HostRuntime) -> Result<(), Fail> {
     for (text, expected) in CASES.iter() {
-        assert!(rt; answers(rt.alloc(), *text)? == *expected, "{text}");
+        assert!(rt; has_form(rt.alloc(), *text)? == *expected, "{text}");
     }
     Ok(())
 }
@@ -230,8 +211,8 @@ fn texts_are_told_apart(rt: HostRuntime) -> Result<(), Fail> {
 #[test]
 fn a_function_has_at_most_16_acts(rt: HostRuntime) -> Result<(), Fail> {
     let most = with_acts(rt.alloc(), 16)?;
-    assert_eq!(rt; answers(rt.alloc(), most.as_str())?, (true, true));
+    assert_eq!(rt; has_form(rt.alloc(), most.as_str())?, true);
     let over = with_acts(rt.alloc(), 17)?;
-    assert_eq!(rt; answers(rt.alloc(), over.as_str())?, (false, false));
+    assert_eq!(rt; has_form(rt.alloc(), over.as_str())?, false);
     Ok(())
 }

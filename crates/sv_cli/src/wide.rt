@@ -1,0 +1,82 @@
+use std::marker::Model;
+
+/// A whole number below 2^256.
+#[derive(Clone, Copy, Debug, PartialEq, Eq)]
+pub struct Wide {
+    high: u128,
+    low: u128,
+}
+
+impl Model for Wide {
+    ghost use Rattle.std.specs.Prelude.{ℕ, ◌+◌, ◌*◌, ◌/◌, ◌%◌, ◌^◌, ◌<◌};
+    ghost use Rattle.std.proofs.lemmas.Nat.{div-mul-add, mod-mul-add};
+
+    ghost Value = { ℕ };
+
+    ghost view = { λ w. w.high * 2 ^ 128 + w.low };
+
+    ghost invariant = { λ w. w.low < 2 ^ 128 };
+
+    ghost inverse = { λ n. record { high = n / 2 ^ 128; low = n % 2 ^ 128 } };
+
+    ghost inverse_ok = { λ w low. λ i. record {
+      high = div-mul-add w.high (2 ^ 128) w.low low i;
+      low = mod-mul-add w.high (2 ^ 128) w.low low i;
+    } };
+}
+
+impl Wide {
+    ghost use Rattle.std.specs.Prelude.{◌≡◌, ◌+◌, ◌*◌, ◌^◌, ◌<◌, SomeIff};
+
+    /// The number of these two halves.
+    pub fn new(high: u128, low: u128) -> Wide
+        ensures { result ≡ high * 2 ^ 128 + low }
+    {
+        Wide { high, low }
+    }
+
+    pub fn from_u64(number: u64) -> Wide
+        ensures { result ≡ number }
+    {
+        Wide::new(0, u128::from(number))
+    }
+
+    pub fn checked_add(self, other: Wide) -> Option<Wide>
+        ensures { SomeIff result (self + other < 2 ^ 256) (self + other) }
+    {
+        let (low, carry) = self.low.overflowing_add(other.low);
+        let high = self.high.checked_add(other.high)?;
+        let high = high.checked_add(u128::from(carry))?;
+        Some(Wide { high, low })
+    }
+}
+
+#[cfg(test)]
+mod tests {
+    use super::*;
+
+    #[test]
+    fn sums(rt: HostRuntime) {
+        let most = Wide::new(u128::MAX, u128::MAX);
+        let half = Wide::new(1 << 127, 0);
+        let low = Wide::new(0, u128::MAX);
+        let one = Wide::from_u64(1);
+        for (a, b, sum) in [
+            (one, one, Some(Wide::new(0, 2))),
+            (low, one, Some(Wide::new(1, 0))),
+            (low, low, Some(Wide::new(1, u128::MAX - 1))),
+            (
+                Wide::new(u128::MAX - 1, u128::MAX),
+                one,
+                Some(Wide::new(u128::MAX, 0)),
+            ),
+            (most, Wide::from_u64(0), Some(most)),
+            (most, one, None),
+            (one, most, None),
+            (half, half, None),
+            (half, Wide::new(u128::MAX >> 1, u128::MAX), Some(most)),
+        ] {
+            assert_eq!(rt; a.checked_add(b), sum);
+        }
+    }
+}
