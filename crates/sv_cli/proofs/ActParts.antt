@@ -92,7 +92,7 @@ name_is_free names v text are within held named =
 
 pub require_is_reserved : Contains reserved (codes "require")
 unfolding reserved
-require_is_reserved = (105, omega arith, refl)
+require_is_reserved = (106, omega arith, refl)
 
 pub contract_is_reserved : Contains reserved (codes "contract")
 unfolding reserved

@@ -1,5 +1,5 @@
 -- What is due for a text that stands for a contract.
-use Rattle.std.proofs.Common.{◌≡◌, ℕ, ◌+◌, ◌≤◌, List, [], ◌∷◌, ◌++◌, length, map, codes, Result, Ok, Err, IfOk, Vec, Global, refl, sym, ap, ◌∙◌, arith}
+use Rattle.std.proofs.Common.{◌≡◌, ℕ, ◌+◌, ◌≤◌, List, [], ◌∷◌, length, map, codes, Result, Ok, Err, IfOk, Vec, Global, refl, arith}
 use Rattle.std.proofs.lemmas.List.{length-map, length-append}
 use Rattle.sv_text.specs.declared.no_memory.NoMemory.{NoMemory}
 use Rattle.sv_cli.specs.Due.{HasForm, IsDue, limit}

@@ -1,5 +1,5 @@
 -- One call more is given its room, or its piece.
-use Rattle.std.proofs.Common.{◌≡◌, ℕ, ◌+◌, ◌-◌, ◌≤◌, List, [], ◌∷◌, ◌++◌, Option, Some, None, ◌⊎◌, inl, inr, append_assoc, length, drop, drop-drop, min, refl, sym, ap, subst, ◌∙◌, arith}
+use Rattle.std.proofs.Common.{◌≡◌, ℕ, ◌+◌, ◌-◌, List, [], ◌∷◌, ◌++◌, Option, Some, None, inl, inr, append_assoc, drop, drop-drop, min, refl, sym, ap, subst, ◌∙◌, arith}
 use Rattle.sv_io.specs.Calls.{Taking, Putting, AddsCall, MayAddCall}
 use Rattle.sv_cli.specs.Moved.{AreRooms, ArePieces, GivesRooms, GivesPieces}
 use Rattle.sv_cli.specs.Moving.{total_got, total_took, HasGivenRooms, HasGivenPieces}

@@ -1,17 +1,17 @@
 -- A line `C: holds` of what is due for a text is true of every history of the contract C.
-use Rattle.std.proofs.Common.{◌≡◌, ◌==◌, ℕ, ◌+◌, ◌<◌, ◌≤◌, ◌⊎◌, inl, inr, not, Bool, true, false, if◌then◌else◌, List, [], ◌∷◌, ◌++◌, All, length, map, codes, Option, Some, None, refl, sym, ap, subst, ◌∙◌, arith, append_assoc, append-nil}
+use Rattle.std.proofs.Common.{◌≡◌, ◌==◌, ℕ, inl, inr, not, Bool, true, false, List, [], ◌∷◌, ◌++◌, All, map, codes, Option, Some, None, refl, sym, ap, subst, ◌∙◌, arith, append_assoc, append-nil}
 use Rattle.std.specs.List.{list_all, AllPass}
 use Rattle.std.proofs.lemmas.List.{append_cancel_left, append_cancel_right}
-use Rattle.std.proofs.lemmas.List.Elements.{All-nil, All-cons, All-head, All-tail, All-push, All-map, All-append, All-weaker}
+use Rattle.std.proofs.lemmas.List.Elements.{All-nil, All-cons, All-head, All-tail, All-push, All-map}
 use Rattle.sv_cli.specs.Answered.{IsReadTo, IsDueFrom}
-use Rattle.sv_cli.specs.Due.{HasForm, IsDue}
+use Rattle.sv_cli.specs.Due.{IsDue}
 use Rattle.sv_cli.specs.Due.IsDue.{IsLong, IsUnbuilt, IsReported}
-use Rattle.sv_cli.specs.FirstForm.{IsName, IsContract, names_of}
+use Rattle.sv_cli.specs.FirstForm.{IsName, IsContract}
 use Rattle.sv_cli.specs.Headline.{HasLine, IsSafeFor, HoldsTruly}
 use Rattle.sv_cli.specs.Judging.{Judged, judged_of, judged_function, known_at_construction, known_at_entry}
 use Rattle.sv_cli.specs.Moved.{IsWritten, IsCutShort}
 use Rattle.sv_cli.specs.Refusals.{error_text}
-use Rattle.sv_cli.specs.Report.{Reports, line_text, lines_text, last_text, verdict_text, is_verified}
+use Rattle.sv_cli.specs.Report.{lines_text, last_text, verdict_text, is_verified}
 use Rattle.sv_cli.specs.Tokens.{is_letter}
 use Rattle.sv_cli.specs.declared.contract.Contract.{Contract}
 use Rattle.sv_cli.specs.declared.contract.Function.{Function}

@@ -1,15 +1,15 @@
 -- A contract all of whose functions are verified is safe: the forms of the judge are what a run without revert leaves.
-use Rattle.std.proofs.Common.{◌≡◌, ◌==◌, ◌≢◌, ℕ, zero, suc, ◌+◌, ◌<◌, ◌≤◌, ◌⊎◌, inl, inr, ◌&&◌, Bool, true, false, nat_lt, if◌then◌else◌, ℤ, pos, ◌+ℤ◌, ◌-ℤ◌, neg_ℤ, List, [], ◌∷◌, ◌++◌, All, Any, fold, length, map, slice_get, slice_index_or, Option, Some, None, option_and_then, refl, sym, ap, subst, ◌∙◌, arith}
+use Rattle.std.proofs.Common.{◌≡◌, ◌==◌, ℕ, zero, suc, ◌<◌, ◌⊎◌, inl, inr, ◌&&◌, Bool, true, false, nat_lt, if◌then◌else◌, pos, ◌-ℤ◌, neg_ℤ, List, [], ◌∷◌, ◌++◌, All, fold, length, map, slice_get, Option, Some, None, option_and_then, refl, sym, ap, subst, ◌∙◌, arith}
 use Rattle.std.specs.List.{list_all}
 use Rattle.std.proofs.lemmas.Int.{ints}
 use Rattle.std.proofs.lemmas.Bool.{eqb-true}
-use Rattle.std.proofs.lemmas.List.Elements.{All-nil, All-cons, All-head, All-tail, All-push, All-map, All-append, All-get_or, All-weaker}
+use Rattle.std.proofs.lemmas.List.Elements.{All-nil, All-cons, All-head, All-tail, All-push, All-append}
 use Rattle.std.proofs.lemmas.Option.{get_or_from_slice_get, slice_get_within}
 use Rattle.sv_cli.specs.FirstForm.{IsItem, IsSide, IsValue, IsEquation, IsAct, IsFunction, IsContract}
-use Rattle.sv_cli.specs.History.{Values, State, item_value, sum_value, IsTrueIn, range, after_act, run, run_of, Event, Passed, after_call, after_event, marks_after, History, constructed, marks_of, Safe}
+use Rattle.sv_cli.specs.History.{Values, State, item_value, sum_value, IsTrueIn, range, after_act, run, run_of, Event, after_call, after_event, marks_after, History, constructed, Safe}
 use Rattle.sv_cli.specs.History.Event.{Call, Gift}
-use Rattle.sv_cli.specs.Judging.{item_form, sum_form, equation_form, Known, known_after, known_at_construction, known_at_entry, Judged, judged_function, judged_of, IsProved, IsVerdict, AreVerdicts}
-use Rattle.sv_cli.specs.LinearForm.{LinearForm, IsSame, IsZero, number_form, variable_form, plus, minus, negation}
+use Rattle.sv_cli.specs.Judging.{item_form, sum_form, equation_form, Known, known_after, known_at_construction, known_at_entry, Judged, judged_function, judged_of, IsProved, AreVerdicts}
+use Rattle.sv_cli.specs.LinearForm.{LinearForm, IsSame, number_form, variable_form, negation}
 use Rattle.sv_cli.specs.Report.{is_verified}
 use Rattle.sv_cli.specs.Value.{value_at}
 use Rattle.sv_cli.specs.declared.contract.Act.{Act}

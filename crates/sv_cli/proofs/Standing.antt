@@ -1,5 +1,5 @@
 -- What a list of tokens stands for, from the whole contract in front of them.
-use Rattle.std.proofs.Common.{◌≡◌, List, [], sym, ap, ◌∙◌, refl, Result, Ok, Err, IfOk}
+use Rattle.std.proofs.Common.{◌≡◌, List, [], sym, ◌∙◌, refl, Result, Ok, Err, IfOk}
 use Rattle.std.proofs.lemmas.List.{append-nil}
 use Rattle.std.specs.Result.{IsErrOf}
 use Rattle.sv_cli.specs.FirstForm.{StandsFor, contract_tokens}

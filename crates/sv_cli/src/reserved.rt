@@ -1,5 +1,5 @@
 /// The words of one to eight letters that no contract, variable or function of the first form may have as its name.
-pub const RESERVED: [&[u8]; 108] = [
+pub const RESERVED: [&[u8]; 109] = [
     // the language's keywords and elementary types
     b"abstract",
     b"address",
@@ -10,6 +10,7 @@ pub const RESERVED: [&[u8]; 108] = [
     b"continue",
     b"contract",
     b"days",
+    b"delete",
     b"else",
     b"emit",
     b"enum",

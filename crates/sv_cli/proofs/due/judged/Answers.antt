@@ -1,4 +1,4 @@
-use Rattle.std.proofs.Common.{◌≡◌, length, ap, ◌∙◌}
+use Rattle.std.proofs.Common.{length, ap, ◌∙◌}
 use Rattle.sv_cli.proofs.DueText.{two_more}
 use Rattle.sv_cli.proofs.due.judged.Goals as goal
 

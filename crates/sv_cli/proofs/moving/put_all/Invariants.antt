@@ -1,4 +1,4 @@
-use Rattle.std.proofs.Common.{◌≡◌, ◌+◌, ◌≤◌, length}
+use Rattle.std.proofs.Common.{◌+◌, ◌≤◌, length}
 use Rattle.sv_cli.specs.Moving.{HasPut, HasGivenPieces}
 use Rattle.sv_cli.proofs.moving.put_all.Given as goal
 

@@ -1,4 +1,4 @@
-use Rattle.std.proofs.Common.{◌≡◌, ◌+◌, ◌-◌, ◌≤◌, length, vec_len}
+use Rattle.std.proofs.Common.{◌+◌, ◌-◌, ◌≤◌, vec_len}
 use Rattle.sv_cli.specs.Moving.{HasTaken, HasGivenRooms}
 use Rattle.sv_cli.proofs.moving.read_up_to.Given as goal
 

@@ -1,7 +1,6 @@
-use Rattle.std.proofs.Common.{◌≡◌, ◌+◌, ◌-◌, ◌++◌, length, List, ℕ, Bool, slice_index_or, codes, get_or, ap, sym, ◌∙◌, append_assoc, arith}
-use Rattle.std.specs.List.{list_all}
+use Rattle.std.proofs.Common.{◌≡◌, ◌+◌, ◌-◌, ◌++◌, length, List, ℕ, Bool, slice_index_or, codes, get_or, ap, sym, ◌∙◌, arith}
 use Rattle.sv_cli.specs.Judging.{judged_of}
-use Rattle.sv_cli.specs.Report.{is_verified, last_text, line_text, lines_text, report_text}
+use Rattle.sv_cli.specs.Report.{last_text, line_text, lines_text}
 use Rattle.sv_cli.specs.declared.contract.Function.{Function}
 use Rattle.sv_cli.specs.declared.verdict.Verdict.TheVariants.{Verified}
 use Rattle.sv_cli.proofs.ReportLines.{function_line, gift_line, advance}
