@@ -2,7 +2,7 @@
 use Rattle.std.proofs.Common.{◌≡◌, ℕ, ◌+◌, ◌≤◌, List, [], ◌∷◌, length, map, codes, Result, Ok, Err, IfOk, Vec, Global, refl, arith}
 use Rattle.std.proofs.lemmas.List.{length-map, length-append}
 use Rattle.sv_text.specs.declared.no_memory.NoMemory.{NoMemory}
-use Rattle.sv_cli.specs.Due.{HasForm, IsDue, limit}
+use Rattle.sv_cli.specs.Due.{IsDue, Means, limit}
 use Rattle.sv_cli.specs.Due.IsDue.{IsReported}
 use Rattle.sv_cli.specs.Judging.{AreVerdicts, Judged, judged_of, judged_function, known_at_entry}
 use Rattle.sv_cli.specs.Report.{Reports}
@@ -12,7 +12,7 @@ use Rattle.sv_cli.specs.declared.ended.Ended.{Ended}
 use Rattle.sv_cli.specs.declared.verdict.Verdict.{Verdict}
 
 pub reported : (text : List ℕ) (c : Contract) (result : Result (Vec ℕ Global × Ended) NoMemory)
-    → length text ≤ limit → HasForm text c → IfOk result (λ due. Reports c due.0.items due.1)
+    → length text ≤ limit → Means text c → IfOk result (λ due. Reports c due.0.items due.1)
     → IfOk result (λ due. IsDue text due.0.items due.1)
 reported text c (Ok due) short form reports = IsReported short c form reports
 reported text c (Err e) short form reports = tt

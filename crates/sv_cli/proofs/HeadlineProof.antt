@@ -118,14 +118,14 @@ due_holds text due name ended (IsLong long is e) has =
     absurd (error_end Long name (subst (λ (l : List ℕ). HasLine l (name ++ codes ": holds")) is has))
 due_holds text due name ended (IsUnbuilt short none is e) has =
     absurd (error_end Unbuilt name (subst (λ (l : List ℕ). HasLine l (name ++ codes ": holds")) is has))
-due_holds text due name ended (IsReported short c form reports) has =
-    let is : IsContract c = form.meaning.form in
+due_holds text due name ended (IsReported short c means reports) has =
+    let is : IsContract c = means.form.meaning.form in
     let there = subst (λ (l : List ℕ). HasLine l (name ++ codes ": holds")) reports.text has in
     let end = last_line c.name name (list_all is_verified reports.verdicts) (contract_free c is)
     (after_lines c.name name (last_text c.name (list_all is_verified reports.verdicts)) (judged_of c) reports.verdicts (contract_free c is) (judged_free c is) there) in
     record {
       contract = c;
-      form = form;
+      form = means.form;
       name_is = end.1;
       safe = verified_is_safe c reports.verdicts is reports.judged end.0;
     }

@@ -15,6 +15,7 @@ pub mod Lines
 pub mod Names
 pub mod NumberLemmas
 pub mod Numerals
+pub mod OneVerdict
 pub mod PointLemmas
 pub mod Repeats
 pub mod ReportLines

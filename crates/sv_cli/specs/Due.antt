@@ -20,9 +20,14 @@ pub record HasForm (text : List ℕ) (c : Contract) : Type 0 where
   pub read : Reads false tokens text
   pub meaning : StandsFor tokens c
 
+-- the text stands for this contract, and for no other
+pub record Means (text : List ℕ) (c : Contract) : Type 0 where
+  pub form : HasForm text c
+  pub only : (other : Contract) → HasForm text other → other ≡ c
+
 -- what is due for a text, and how the program ends where it is written: the error line `Long` over the limit, the error
 -- line `Unbuilt` where the text stands for no contract, and else the report of its contract
 pub data IsDue (text due : List ℕ) (ended : Ended) : Type 0 where
   IsLong : limit < length text → due ≡ error_text Long → ended ≡ Refused → IsDue text due ended
   IsUnbuilt : length text ≤ limit → ((c : Contract) → HasForm text c → ⊥) → due ≡ error_text Unbuilt → ended ≡ Refused → IsDue text due ended
-  IsReported : length text ≤ limit → (c : Contract) → HasForm text c → Reports c due ended → IsDue text due ended
+  IsReported : length text ≤ limit → (c : Contract) → Means text c → Reports c due ended → IsDue text due ended

@@ -22,6 +22,7 @@ pub const LIMIT: usize = 1_048_576;
 fn read_contract<'a>(alloc: Global, text: &'a [u8]) -> Result<Contract<'a>, FormError>
     requires { length text.now ≤ limit }
     ensures form { IfOk result (λ c. HasForm text.now c) }
+    ensures only { IfOk result (λ c. (other : Contract) → HasForm text.now other → other ≡ c) }
     ensures unbuilt { IsErrOf result FormError.Unbuilt → (c : Contract) → HasForm text.now c → ⊥ }
 {
     let tokens = scan(alloc, text)?;

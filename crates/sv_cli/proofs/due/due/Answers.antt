@@ -5,7 +5,7 @@ use Rattle.sv_cli.proofs.DueText.{reported}
 use Rattle.sv_cli.proofs.due.due.Goals as goal
 
 pub returns-in-Ok : goal.returns-in-Ok
-returns-in-Ok c = reported c.args.text.now c.in-Ok.contract c.judged.result (omega arith) c.in-Ok.ensures.form c.judged.ensures
+returns-in-Ok c = reported c.args.text.now c.in-Ok.contract c.judged.result (omega arith) (record { form = c.in-Ok.ensures.form; only = c.in-Ok.ensures.only }) c.judged.ensures
 
 pub returns-in_ok-error_line-in-Err-Unbuilt : goal.returns-in_ok-error_line-in-Err-Unbuilt
 returns-in_ok-error_line-in-Err-Unbuilt c =

@@ -1,0 +1,5 @@
+use Rattle.sv_cli.proofs.OneVerdict.{due_is_one}
+use Rattle.sv_cli.proofs.laws.due_is_one.Goals as goal
+
+pub returns : goal.returns
+returns c = due_is_one
