@@ -4,6 +4,7 @@ ghost use Rattle.sv_cli.specs.Weights.{weight_limit};
 
 use sv_num::{add, mul};
 
+/// The sum, which the caller knows to be in range.
 pub fn exact_sum(a: i128, b: i128) -> i128
     requires { unsigned_abs a + unsigned_abs b < weight_limit }
     ensures { result ≡ a +ℤ b }

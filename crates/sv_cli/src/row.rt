@@ -128,6 +128,7 @@ impl Row {
         Ok(self)
     }
 
+    /// Whether the constant and each column are 0.
     pub fn is_zero(&self) -> bool
         ensures { IsTrue result ↔ IsZero (form_of self.now) }
     {

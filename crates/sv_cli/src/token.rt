@@ -17,12 +17,14 @@ impl<'a> Model for Text<'a> {
 }
 
 impl<'a> Text<'a> {
+    /// The slice of these bytes.
     pub fn new(bytes: &'a [u8]) -> Text<'a>
         ensures { result ≡ bytes.now }
     {
         Text { bytes }
     }
 
+    /// The bytes of the slice.
     pub fn bytes(&self) -> &'a [u8]
         ensures { result.now ≡ self.now }
     {

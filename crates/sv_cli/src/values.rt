@@ -52,6 +52,7 @@ impl Values {
         }
     }
 
+    /// Gives a variable a new row.
     pub fn assign(&mut self, variable: usize, row: Row) -> Result<(), NoMemory>
         requires room { count_of self.old < 16 }
         requires light { weight_of row ≤ most_after (count_of self.old + 1) }

@@ -14,6 +14,7 @@ pub enum Verdict {
 impl Verdict {
     ghost use Rattle.sv_cli.specs.Report.{is_verified};
 
+    /// Whether every invariant is proved.
     pub fn is_verified(&self) -> bool
         ensures { result ≡ is_verified self.now }
     {

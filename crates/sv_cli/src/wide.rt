@@ -35,12 +35,14 @@ impl Wide {
         Wide { high, low }
     }
 
+    /// A number of at most 64 bits.
     pub fn from_u64(number: u64) -> Wide
         ensures { result ≡ number }
     {
         Wide::new(0, u128::from(number))
     }
 
+    /// The sum, or none where it is 2^256 or more.
     pub fn checked_add(self, other: Wide) -> Option<Wide>
         ensures { SomeIff result (self + other < 2 ^ 256) (self + other) }
     {

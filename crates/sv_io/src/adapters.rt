@@ -23,6 +23,7 @@ impl<R: Read + Drop> Model for StdSource<R> {
 }
 
 impl<R: Read + Drop> StdSource<R> {
+    /// A source over a reader, with its counts at 0.
     pub fn new(inner: R) -> StdSource<R>
         ensures { result ≡ record { known = R.remaining inner; calls = 0; faults = 0 } }
     {
@@ -89,6 +90,7 @@ impl<W: Write + Drop> Model for StdSink<W> {
 }
 
 impl<W: Write + Drop> StdSink<W> {
+    /// A sink over a writer, with its counts at 0.
     pub fn new(inner: W) -> StdSink<W>
         ensures { result ≡ record { known = W.contents inner; calls = 0; faults = 0 } }
     {

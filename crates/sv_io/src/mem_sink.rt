@@ -30,6 +30,7 @@ impl Model for MemSink {
 }
 
 impl MemSink {
+    /// An empty sink, which takes its room here.
     pub fn new(
         alloc: Global,
         room: usize,

@@ -28,6 +28,7 @@ impl Model for MemSource {
 }
 
 impl MemSource {
+    /// A source over these bytes. It takes no memory.
     pub fn new(bytes: Vec<u8>, piece: usize, fails: Vec<u64>) -> MemSource
         requires piece { 1 ≤ piece }
         requires fails { All (λ k. k < 2 ^ 64 - 1) fails.items }

@@ -22,12 +22,14 @@ impl<'t, 'a> Model for Cursor<'t, 'a> {
 }
 
 impl<'t, 'a> Cursor<'t, 'a> {
+    /// Before the first token.
     pub fn new(tokens: &'t [Token<'a>]) -> Cursor<'t, 'a>
         ensures { result ≡ tokens.now }
     {
         Cursor { rest: tokens }
     }
 
+    /// Whether no token is left.
     pub fn is_at_end(&self) -> bool
         ensures { IsTrue result ↔ (self.now ≡ []) }
     {

@@ -25,6 +25,7 @@ pub fn declare(names: &mut Names, text: &[u8]) -> Result<(), FormError>
     Ok(())
 }
 
+/// Declares the variables in order.
 pub fn declare_variables(names: &mut Names, variables: &[Text<'_>]) -> Result<(), FormError>
     requires few { length names.old + length variables.now < 2 ^ 32 }
     requires names { AreNames names.old }
@@ -36,6 +37,7 @@ pub fn declare_variables(names: &mut Names, variables: &[Text<'_>]) -> Result<()
     Ok(())
 }
 
+/// Declares the functions in order.
 pub fn declare_functions(names: &mut Names, functions: &[Function<'_>]) -> Result<(), FormError>
     requires few { length names.old + length functions.now < 2 ^ 32 }
     requires names { AreNames names.old }
