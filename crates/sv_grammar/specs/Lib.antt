@@ -1,0 +1,4 @@
+pub mod Grammar
+pub mod Reach
+pub mod Named
+pub mod Reading

@@ -1,0 +1,17 @@
+pub mod CollectLemmas
+pub mod CommentLemmas
+pub mod LimitLemmas
+pub mod LongestLemmas
+pub mod LoopLemmas
+pub mod MarkLemmas
+pub mod NoteLaws
+pub mod NoteLemmas
+pub mod NumberLemmas
+pub mod PieceLaws
+pub mod PieceLemmas
+pub mod PlaceLemmas
+pub mod SplitLaws
+pub mod StringLemmas
+pub mod StuckLaws
+pub mod TokenLaws
+pub mod WordLemmas

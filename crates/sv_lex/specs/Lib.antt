@@ -1,0 +1,16 @@
+pub mod Bytes
+pub mod Forms
+pub mod Pieces
+pub mod Tokens
+pub mod Faults
+pub mod Limits
+pub mod Lexing
+pub mod Classes
+pub mod Longest
+pub mod Strings
+pub mod Reading
+pub mod Annotations
+pub mod Collecting
+pub mod Listing
+pub mod Nesting
+pub mod Laws
