@@ -82,3 +82,8 @@ module _ {S : Type 0} (rules : S → Part S) (empty : S → Bool) (f c l : S →
   -- what is read by rules whose tables are right, and whose alternatives are apart, is exact
   pub reads_exactly : ((s : S) → AllApart rules (rules s)) → (s : S) (ts : List Token) (o : Outcome) → Reads rules empty f (side s) ts o → Exact rules (side s) ts o
   reads_exactly all_apart s ts o d = exact (tables rules empty f c l n all) live all_apart d (refl, tt)
+
+  -- the same of any part
+  pub part_exactly : ((s : S) → AllApart rules (rules s)) → (a : Part S) → fine empty f c a ≡ true → AllApart rules a
+      → (ts : List Token) (o : Outcome) → Reads rules empty f a ts o → Exact rules a ts o
+  part_exactly all_apart a is_fine apart ts o d = exact (tables rules empty f c l n all) live all_apart d (is_fine, apart)

@@ -1,0 +1,10 @@
+pub mod Tables
+pub mod Apart
+pub mod Exactly
+pub mod ExprLaws
+pub mod StmtLaws
+pub mod Nothing
+pub mod Unread
+pub mod NewReads
+pub mod NewSpells
+pub mod Named

@@ -1,0 +1,12 @@
+pub mod Terminals
+pub mod Classes
+pub mod Syntax
+pub mod Firsts
+pub mod Trees
+pub mod ExprTrees
+pub mod SimpleTrees
+pub mod StmtTrees
+pub mod DeclarationTrees
+pub mod ContractTrees
+pub mod UnitTrees
+pub mod Laws
