@@ -1,21 +1,20 @@
 -- What is due for a text that stands for a contract.
-use Rattle.std.proofs.Common.{◌≡◌, ℕ, ◌+◌, ◌≤◌, List, [], ◌∷◌, length, map, codes, Result, Ok, Err, IfOk, Vec, Global, refl, arith}
+use Rattle.std.proofs.Common.{◌≡◌, ℕ, ◌+◌, List, [], ◌∷◌, length, map, codes, Result, Ok, Err, IfOk, Vec, Global, refl, arith}
 use Rattle.std.proofs.lemmas.List.{length-map, length-append}
-use Rattle.sv_text.specs.declared.no_memory.NoMemory.{NoMemory}
-use Rattle.sv_cli.specs.Due.{IsDue, Means, limit}
+use Rattle.sv_cli.specs.Due.{IsDue, Means}
 use Rattle.sv_cli.specs.Due.IsDue.{IsReported}
-use Rattle.sv_cli.specs.Judging.{AreVerdicts, Judged, judged_of, judged_function, known_at_entry}
 use Rattle.sv_cli.specs.Report.{Reports}
-use Rattle.sv_cli.specs.declared.contract.Contract.{Contract}
-use Rattle.sv_cli.specs.declared.contract.Equation.{Equation}
 use Rattle.sv_cli.specs.declared.ended.Ended.{Ended}
-use Rattle.sv_cli.specs.declared.verdict.Verdict.{Verdict}
+use Rattle.sv_first_form.specs.declared.contract.Contract.{Contract}
+use Rattle.sv_first_form.specs.declared.contract.Equation.{Equation}
+use Rattle.sv_first_judge.specs.Judging.{AreVerdicts, Judged, judged_of, judged_function, known_at_entry}
+use Rattle.sv_first_judge.specs.declared.verdict.Verdict.{Verdict}
+use Rattle.sv_text.specs.declared.no_memory.NoMemory.{NoMemory}
 
 pub reported : (text : List ℕ) (c : Contract) (result : Result (Vec ℕ Global × Ended) NoMemory)
-    → length text ≤ limit → Means text c → IfOk result (λ due. Reports c due.0.items due.1)
-    → IfOk result (λ due. IsDue text due.0.items due.1)
-reported text c (Ok due) short form reports = IsReported short c form reports
-reported text c (Err e) short form reports = tt
+    → Means text c → IfOk result (λ due. Reports c due.0.items due.1) → IfOk result (λ due. IsDue text due.0.items due.1)
+reported text c (Ok due) means reports = IsReported c means reports
+reported text c (Err e) means reports = tt
 
 -- there are as many verdicts as there are to be
 as_many : (invariants : List Equation) (js : List Judged) (vs : List Verdict) → AreVerdicts invariants js vs → length vs ≡ length js

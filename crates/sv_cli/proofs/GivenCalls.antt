@@ -1,8 +1,8 @@
 -- One call more is given its room, or its piece.
 use Rattle.std.proofs.Common.{◌≡◌, ℕ, ◌+◌, ◌-◌, List, [], ◌∷◌, ◌++◌, Option, Some, None, inl, inr, append_assoc, drop, drop-drop, min, refl, sym, ap, subst, ◌∙◌, arith}
-use Rattle.sv_io.specs.Calls.{Taking, Putting, AddsCall, MayAddCall}
 use Rattle.sv_cli.specs.Moved.{AreRooms, ArePieces, GivesRooms, GivesPieces}
 use Rattle.sv_cli.specs.Moving.{total_got, total_took, HasGivenRooms, HasGivenPieces}
+use Rattle.sv_io.specs.Calls.{Taking, Putting, AddsCall, MayAddCall}
 
 pub rooms-push : (missing : ℕ) (calls : List Taking) (call : Taking)
     → AreRooms missing calls → call.room ≡ min 4096 (missing - total_got calls) → AreRooms missing (calls ++ call ∷ [])

@@ -1,26 +1,29 @@
 -- A line `C: holds` of what is due for a text is true of every history of the contract C.
 use Rattle.std.proofs.Common.{◌≡◌, ◌==◌, ℕ, inl, inr, not, Bool, true, false, List, [], ◌∷◌, ◌++◌, All, map, codes, Option, Some, None, refl, sym, ap, subst, ◌∙◌, arith, append_assoc, append-nil}
+use Rattle.std.specs.Fmt.{decimal}
 use Rattle.std.specs.List.{list_all, AllPass}
 use Rattle.std.proofs.lemmas.List.{append_cancel_left, append_cancel_right}
 use Rattle.std.proofs.lemmas.List.Elements.{All-nil, All-cons, All-head, All-tail, All-push, All-map}
+use Rattle.sv_cli.proofs.Lines.{is_free, and_both, free-append, free-decimal, free_verdict, verdict_end, not_newline, line_cases, no_line, line_of_front, last, last-append}
 use Rattle.sv_cli.specs.Answered.{IsReadTo, IsDueFrom}
 use Rattle.sv_cli.specs.Due.{IsDue}
-use Rattle.sv_cli.specs.Due.IsDue.{IsLong, IsUnbuilt, IsReported}
-use Rattle.sv_cli.specs.FirstForm.{IsName, IsContract}
+use Rattle.sv_cli.specs.Due.IsDue.{IsError, IsReported}
 use Rattle.sv_cli.specs.Headline.{HasLine, IsSafeFor, HoldsTruly}
-use Rattle.sv_cli.specs.Judging.{Judged, judged_of, judged_function, known_at_construction, known_at_entry}
 use Rattle.sv_cli.specs.Moved.{IsWritten, IsCutShort}
-use Rattle.sv_cli.specs.Refusals.{error_text}
-use Rattle.sv_cli.specs.Report.{lines_text, last_text, verdict_text, is_verified}
-use Rattle.sv_cli.specs.Tokens.{is_letter}
-use Rattle.sv_cli.specs.declared.contract.Contract.{Contract}
-use Rattle.sv_cli.specs.declared.contract.Function.{Function}
+use Rattle.sv_cli.specs.Refusals.{error_text, kind_text, place_of}
+use Rattle.sv_cli.specs.Report.{lines_text, last_text}
 use Rattle.sv_cli.specs.declared.ended.Ended.{Ended}
 use Rattle.sv_cli.specs.declared.refusal.Refusal.{Refusal}
-use Rattle.sv_cli.specs.declared.refusal.Refusal.TheVariants.{Long, Unbuilt}
-use Rattle.sv_cli.specs.declared.verdict.Verdict.{Verdict}
-use Rattle.sv_cli.proofs.Lines.{is_free, and_both, free-append, free_verdict, verdict_end, not_newline, line_cases, no_line, line_of_front, last, last-append}
-use Rattle.sv_cli.proofs.Soundness.{verified_is_safe}
+use Rattle.sv_cli.specs.declared.refusal.Refusal.TheVariants.{Long, Char, Unclosed, Many, Out, Deep, Unbuilt}
+use Rattle.sv_first_form.specs.FirstForm.{IsName, IsContract}
+use Rattle.sv_first_form.specs.declared.contract.Contract.{Contract}
+use Rattle.sv_first_form.specs.declared.contract.Function.{Function}
+use Rattle.sv_first_judge.proofs.Soundness.{verified_is_safe}
+use Rattle.sv_first_judge.specs.Judging.{Judged, judged_of, judged_function, known_at_construction, known_at_entry}
+use Rattle.sv_first_judge.specs.Verdict.{verdict_text, is_verified}
+use Rattle.sv_first_judge.specs.declared.verdict.Verdict.{Verdict}
+use Rattle.sv_lex.specs.Bytes.{is_letter}
+use Rattle.sv_text.specs.declared.place.Place.{Place}
 
 -- names have no newline
 letters_free : (text : List ℕ) → AllPass is_letter text → is_free text ≡ true
@@ -100,32 +103,52 @@ last_line contract name false free has =
     ]
 
 -- no error line says that a contract holds
+free_kind : (refusal : Refusal) → is_free (kind_text refusal) ≡ true
+free_kind Long = refl
+free_kind (Char place) = refl
+free_kind (Unclosed place) = refl
+free_kind (Many place) = refl
+free_kind (Out place) = refl
+free_kind (Deep place) = refl
+free_kind Unbuilt = refl
+
+-- the kind begins with a byte, and doesn't end with an `s`
+kind_end : (refusal : Refusal) → (first : ℕ) × (rest : List ℕ) × (kind_text refusal ≡ first ∷ rest) × (last (first ∷ rest) ≡ 115 → ⊥)
+kind_end Long = (76, codes "ong", refl, λ e. omega arith)
+kind_end (Char place) = (67, codes "har", refl, λ e. omega arith)
+kind_end (Unclosed place) = (85, codes "nclosed", refl, λ e. omega arith)
+kind_end (Many place) = (77, codes "any", refl, λ e. omega arith)
+kind_end (Out place) = (79, codes "ut", refl, λ e. omega arith)
+kind_end (Deep place) = (68, codes "eep", refl, λ e. omega arith)
+kind_end Unbuilt = (85, codes "nbuilt", refl, λ e. omega arith)
+
 error_end : (refusal : Refusal) (name : List ℕ) → HasLine (error_text refusal) (name ++ codes ": holds") → ⊥
-error_end Long name has =
-    elim (line_cases (codes "error 1:1 Long") [] (name ++ codes ": holds") refl has) [
-      | inl is ↦ omega (arith, ap last is, last-append name 58 (codes " holds"))
-      | inr later ↦ no_line _ later
-    ]
-error_end Unbuilt name has =
-    elim (line_cases (codes "error 1:1 Unbuilt") [] (name ++ codes ": holds") refl has) [
-      | inl is ↦ omega (arith, ap last is, last-append name 58 (codes " holds"))
+error_end refusal name has =
+    let place : Place = place_of refusal in
+    let front : List ℕ = codes "error " ++ decimal place.line ++ codes ":" ++ decimal place.col ++ codes " " in
+    let front_free : is_free front ≡ true =
+    free-append (codes "error " ++ decimal place.line ++ codes ":" ++ decimal place.col) (codes " ")
+    (free-append (codes "error " ++ decimal place.line ++ codes ":") (decimal place.col)
+    (free-append (codes "error " ++ decimal place.line) (codes ":") (free-append (codes "error ") (decimal place.line) refl (free-decimal place.line)) refl)
+    (free-decimal place.col)) refl in
+    let end = kind_end refusal in
+    elim (line_cases (front ++ kind_text refusal) [] (name ++ codes ": holds") (free-append front (kind_text refusal) front_free (free_kind refusal)) has) [
+      | inl is ↦ end.3 (sym (last-append front end.0 end.1) ∙ ap (λ (k : List ℕ). last (front ++ k)) (sym end.2) ∙ sym (ap last is) ∙ last-append name 58 (codes " holds"))
       | inr later ↦ no_line _ later
     ]
 
 -- a line `C: holds` of what is due for a text is true
 pub due_holds : (text due name : List ℕ) (ended : Ended) → IsDue text due ended → HasLine due (name ++ codes ": holds") → IsSafeFor text name
-due_holds text due name ended (IsLong long is e) has =
-    absurd (error_end Long name (subst (λ (l : List ℕ). HasLine l (name ++ codes ": holds")) is has))
-due_holds text due name ended (IsUnbuilt short none is e) has =
-    absurd (error_end Unbuilt name (subst (λ (l : List ℕ). HasLine l (name ++ codes ": holds")) is has))
-due_holds text due name ended (IsReported short c means reports) has =
-    let is : IsContract c = means.form.meaning.form in
+due_holds text due name ended (IsError refusal refused is e) has =
+    absurd (error_end refusal name (subst (λ (l : List ℕ). HasLine l (name ++ codes ": holds")) is has))
+due_holds text due name ended (IsReported c means reports) has =
+    let is : IsContract c = means.meaning.form in
     let there = subst (λ (l : List ℕ). HasLine l (name ++ codes ": holds")) reports.text has in
     let end = last_line c.name name (list_all is_verified reports.verdicts) (contract_free c is)
     (after_lines c.name name (last_text c.name (list_all is_verified reports.verdicts)) (judged_of c) reports.verdicts (contract_free c is) (judged_free c is) there) in
     record {
       contract = c;
-      form = means.form;
+      form = record { tokens = means.tokens; read = means.plain.within.read; meaning = means.meaning };
       name_is = end.1;
       safe = verified_is_safe c reports.verdicts is reports.judged end.0;
     }

@@ -4,10 +4,10 @@ use Rattle.std.specs.List.{list_all}
 use Rattle.std.specs.Fmt.{decimal, digits, digits_onto, digit_glyph}
 use Rattle.std.proofs.lemmas.Bool.{lt-ltb}
 use Rattle.std.proofs.lemmas.Bool.Decides.{eqb_tells}
-use Rattle.sv_cli.specs.Report.{verdict_text}
-use Rattle.sv_cli.specs.declared.verdict.Verdict.{Verdict}
-use Rattle.sv_cli.specs.declared.verdict.Verdict.TheVariants.{Verified, Unproved}
 use Rattle.sv_cli.specs.Headline.{IsAtLineStart, HasLine}
+use Rattle.sv_first_judge.specs.Verdict.{verdict_text}
+use Rattle.sv_first_judge.specs.declared.verdict.Verdict.{Verdict}
+use Rattle.sv_first_judge.specs.declared.verdict.Verdict.TheVariants.{Verified, Unproved}
 
 abbrev pub is_free : List ℕ → Bool
 is_free = list_all (λ b. not (b == 10))

@@ -1,17 +1,16 @@
--- What is due for a text is one: a function has one verdict, a contract one report, and a text one contract.
-use Rattle.std.proofs.Common.{◌≡◌, ℕ, zero, suc, ◌+◌, ◌<◌, ◌≤◌, ◌⊎◌, inl, inr, List, [], ◌∷◌, ◌++◌, All, length, if◌then◌else◌, Bool, refl, sym, ap, subst, ◌∙◌, arith}
+-- A function has one verdict, and a contract one report.
+use Rattle.std.proofs.Common.{◌≡◌, ℕ, suc, ◌+◌, List, [], ◌∷◌, ◌++◌, All, length, if◌then◌else◌, refl, sym, ap, subst, ◌∙◌}
 use Rattle.std.specs.List.{list_all}
 use Rattle.std.proofs.lemmas.List.Elements.{All-head, All-tail}
-use Rattle.sv_cli.specs.Due.{HasForm, IsDue, Means}
-use Rattle.sv_cli.specs.Due.IsDue.{IsLong, IsUnbuilt, IsReported}
-use Rattle.sv_cli.specs.Judging.{Known, Judged, judged_of, IsProved, IsFirstUnproved, IsVerdict, AreVerdicts}
-use Rattle.sv_cli.specs.Report.{Reports, report_text, is_verified}
-use Rattle.sv_cli.specs.declared.contract.Contract.{Contract}
-use Rattle.sv_cli.specs.declared.contract.Equation.{Equation}
+use Rattle.sv_cli.specs.Report.{Reports, report_text}
 use Rattle.sv_cli.specs.declared.ended.Ended.{Ended}
 use Rattle.sv_cli.specs.declared.ended.Ended.TheVariants.{Holds, Unheld}
-use Rattle.sv_cli.specs.declared.verdict.Verdict.{Verdict}
-use Rattle.sv_cli.specs.declared.verdict.Verdict.TheVariants.{Verified, Unproved}
+use Rattle.sv_first_form.specs.declared.contract.Contract.{Contract}
+use Rattle.sv_first_form.specs.declared.contract.Equation.{Equation}
+use Rattle.sv_first_judge.specs.Judging.{Known, Judged, judged_of, IsProved, IsVerdict, AreVerdicts}
+use Rattle.sv_first_judge.specs.Verdict.{is_verified}
+use Rattle.sv_first_judge.specs.declared.verdict.Verdict.{Verdict}
+use Rattle.sv_first_judge.specs.declared.verdict.Verdict.TheVariants.{Verified, Unproved}
 
 -- where all are proved none is unproved
 proved_among : (k : Known) (before : List Equation) (e : Equation) (after : List Equation) → All (IsProved k) (before ++ e ∷ after) → IsProved k e
@@ -50,24 +49,10 @@ one_list invariants (j ∷ js) (v ∷ vs) (w ∷ ws) p q =
     let tail : vs ≡ ws = one_list invariants js vs ws p.1 q.1 in
     ap (λ (x : Verdict). x ∷ vs) head ∙ ap (λ (xs : List Verdict). w ∷ xs) tail
 
-one_report : (c : Contract) (due other : List ℕ) (ended other_ended : Ended) → Reports c due ended → Reports c other other_ended
+pub one_report : (c : Contract) (due other : List ℕ) (ended other_ended : Ended) → Reports c due ended → Reports c other other_ended
     → (due ≡ other) × (ended ≡ other_ended)
 one_report c due other ended other_ended p q =
     let same = one_list c.invariants (judged_of c) p.verdicts q.verdicts p.judged q.judged in (
       p.text ∙ ap (report_text c) same ∙ sym q.text,
       p.ending ∙ ap (λ (vs : List Verdict). if list_all is_verified vs then Holds else Unheld) same ∙ sym q.ending,
     )
-
-pub due_is_one : (text due other : List ℕ) (ended other_ended : Ended) → IsDue text due ended → IsDue text other other_ended
-    → (due ≡ other) × (ended ≡ other_ended)
-due_is_one text due other ended other_ended (IsLong long d e) (IsLong long' d' e') = (d ∙ sym d', e ∙ sym e')
-due_is_one text due other ended other_ended (IsLong long d e) (IsUnbuilt short none d' e') = absurd (omega arith)
-due_is_one text due other ended other_ended (IsLong long d e) (IsReported short c means reports) = absurd (omega arith)
-due_is_one text due other ended other_ended (IsUnbuilt short none d e) (IsLong long d' e') = absurd (omega arith)
-due_is_one text due other ended other_ended (IsUnbuilt short none d e) (IsUnbuilt short' none' d' e') = (d ∙ sym d', e ∙ sym e')
-due_is_one text due other ended other_ended (IsUnbuilt short none d e) (IsReported short' c means reports) = absurd (none c means.form)
-due_is_one text due other ended other_ended (IsReported short c means reports) (IsLong long d' e') = absurd (omega arith)
-due_is_one text due other ended other_ended (IsReported short c means reports) (IsUnbuilt short' none d' e') = absurd (none c means.form)
-due_is_one text due other ended other_ended (IsReported short c means reports) (IsReported short' c' means' reports') =
-    one_report c due other ended other_ended reports
-    (subst (λ (x : Contract). Reports x other other_ended) (means.only c' means'.form) reports')

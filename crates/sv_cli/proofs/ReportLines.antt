@@ -2,11 +2,11 @@
 use Rattle.std.proofs.Common.{◌≡◌, ℕ, ◌+◌, ◌<◌, ◌≤◌, List, [], ◌∷◌, ◌++◌, length, drop, map, slice_get, get_or, Some, refl, sym, ap, ◌∙◌, arith, append_assoc, append-nil, add-one, suc, zero, codes, ◌-◌}
 use Rattle.std.proofs.lemmas.List.{drop_all}
 use Rattle.std.proofs.lemmas.Option.{slice_get-get_or, slice_get_read}
-use Rattle.sv_cli.specs.Judging.{Judged, judged_of, judged_function, known_at_entry}
 use Rattle.sv_cli.specs.Report.{line_text, lines_text}
-use Rattle.sv_cli.specs.declared.contract.Contract.{Contract}
-use Rattle.sv_cli.specs.declared.contract.Function.{Function}
-use Rattle.sv_cli.specs.declared.verdict.Verdict.{Verdict}
+use Rattle.sv_first_form.specs.declared.contract.Contract.{Contract}
+use Rattle.sv_first_form.specs.declared.contract.Function.{Function}
+use Rattle.sv_first_judge.specs.Judging.{Judged, judged_of, judged_function, known_at_entry}
+use Rattle.sv_first_judge.specs.declared.verdict.Verdict.{Verdict}
 
 -- the lines from a place on begin with the line there
 lines-at : (name : List ℕ) (js : List Judged) (vs : List Verdict) (k : ℕ) (j : Judged) (v : Verdict)

@@ -1,23 +1,40 @@
 -- What is due depends on a text up to one byte over the limit.
-use Rattle.std.proofs.Common.{◌≡◌, ℕ, ◌+◌, ◌<◌, ◌≤◌, List, length, take, drop, Option, None, Some, refl, ap, ◌∙◌, subst, arith}
+use Rattle.std.proofs.Common.{◌≡◌, ℕ, ◌+◌, ◌<◌, ◌≤◌, ◌⊎◌, inl, inr, List, length, take, drop, Option, None, Some, refl, ap, ◌∙◌, subst, arith}
 use Rattle.std.proofs.lemmas.List.{take_all, length-take}
 use Rattle.sv_cli.specs.Answered.{IsDueFrom, IsDueWithin}
-use Rattle.sv_cli.specs.Due.{IsDue, limit}
-use Rattle.sv_cli.specs.Due.IsDue.{IsLong, IsUnbuilt, IsReported}
+use Rattle.sv_cli.specs.Due.{IsDue, IsRefused}
+use Rattle.sv_cli.specs.Due.IsDue.{IsError, IsReported}
+use Rattle.sv_cli.specs.Due.IsRefused.{IsLong, HasChar, IsUnclosed, HasMany, HasOut, HasDeep, IsUnbuilt}
 use Rattle.sv_cli.specs.Moved.{ReadsUpTo}
+use Rattle.sv_cli.specs.Refusals.{error_text}
 use Rattle.sv_cli.specs.declared.ended.Ended.{Ended}
+use Rattle.sv_cli.specs.declared.refusal.Refusal.{Refusal}
+use Rattle.sv_cli.specs.declared.refusal.Refusal.TheVariants.{Long}
+use Rattle.sv_lex.specs.Lexing.{limit}
 
 -- a front that is no longer than the limit is the whole text
 whole : (most : ℕ) (text : List ℕ) → most ≡ limit + 1 → length (take most text) ≤ limit → take most text ≡ text
 whole most text is short = take_all most text (omega (arith, length-take most text))
 
+-- a text that is refused, and isn't over the limit
+short_or_long : (text : List ℕ) (refusal : Refusal) → IsRefused text refusal → ((limit < length text) × (refusal ≡ Long)) ⊎ (length text ≤ limit)
+short_or_long text _ (IsLong long) = inl (long, refl)
+short_or_long text _ (HasChar at short first) = inr short
+short_or_long text _ (IsUnclosed at short first) = inr short
+short_or_long text _ (HasMany before after t short read size) = inr short
+short_or_long text _ (HasOut tokens before t has first) = inr has.short
+short_or_long text _ (HasDeep tokens before t has none first) = inr has.short
+short_or_long text _ (IsUnbuilt tokens plain none) = inr plain.within.short
+
 -- what is due for the text up to one byte over the limit is due for the text
 due_from_front : (most : ℕ) (text due : List ℕ) (ended : Ended) → most ≡ limit + 1 → IsDue (take most text) due ended → IsDue text due ended
-due_from_front most text due ended is (IsLong long d e) = IsLong (omega (arith, length-take most text)) d e
-due_from_front most text due ended is (IsUnbuilt short none d e) =
-    subst (λ (t : List ℕ). IsDue t due ended) (whole most text is short) (IsUnbuilt short none d e)
-due_from_front most text due ended is (IsReported short c form reports) =
-    subst (λ (t : List ℕ). IsDue t due ended) (whole most text is short) (IsReported short c form reports)
+due_from_front most text due ended is (IsError refusal refused d e) =
+    elim (short_or_long (take most text) refusal refused) [
+      | inl (long, same) ↦ IsError Long (IsLong (omega (arith, length-take most text))) (d ∙ ap error_text same) e
+      | inr short ↦ subst (λ (t : List ℕ). IsDue t due ended) (whole most text is short) (IsError refusal refused d e)
+    ]
+due_from_front most text due ended is (IsReported c means reports) =
+    subst (λ (t : List ℕ). IsDue t due ended) (whole most text is means.plain.within.short) (IsReported c means reports)
 
 pub due_from_read : (most : ℕ) (left left' : Option (List ℕ)) (bytes due : List ℕ) (ended : Ended)
     → most ≡ limit + 1 → ReadsUpTo most left left' bytes → IsDue bytes due ended → IsDueFrom left left' due ended

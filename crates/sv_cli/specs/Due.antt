@@ -1,33 +1,64 @@
 -- What is due for a text: its error line, or the report of the contract that it stands for.
-use Rattle.std.specs.Prelude.{◌≡◌, ℕ, ◌<◌, ◌≤◌, List, length, false}
-use Rattle.sv_cli.specs.FirstForm.{StandsFor}
+use Rattle.std.specs.Prelude.{◌≡◌, ℕ, ◌<◌, ◌≤◌, List, ◌∷◌, ◌++◌, length, map}
 use Rattle.sv_cli.specs.Refusals.{error_text}
 use Rattle.sv_cli.specs.Report.{Reports}
-use Rattle.sv_cli.specs.Tokens.{Reads}
-use Rattle.sv_cli.specs.declared.contract.Contract.{Contract}
 use Rattle.sv_cli.specs.declared.ended.Ended.{Ended}
 use Rattle.sv_cli.specs.declared.ended.Ended.TheVariants.{Refused}
-use Rattle.sv_cli.specs.declared.refusal.Refusal.TheVariants.{Long, Unbuilt}
-use Rattle.sv_cli.specs.declared.token.Token.{Token}
+use Rattle.sv_cli.specs.declared.refusal.Refusal.{Refusal}
+use Rattle.sv_cli.specs.declared.refusal.Refusal.TheVariants.{Long, Char, Unclosed, Many, Out, Deep, Unbuilt}
+use Rattle.sv_first_form.specs.FirstForm.{StandsFor}
+use Rattle.sv_first_form.specs.Symbols.{symbol_of}
+use Rattle.sv_first_form.specs.declared.contract.Contract.{Contract}
+use Rattle.sv_lex.specs.Faults.{FirstFault}
+use Rattle.sv_lex.specs.Lexing.{limit, most_tokens, place_at}
+use Rattle.sv_lex.specs.Limits.{IsDeep, IsFirst, IsOut, HasNo}
+use Rattle.sv_lex.specs.Tokens.{Lexeme, Tokens}
+use Rattle.sv_lex.specs.declared.fault.Flaw.TheVariants as flaw
 
--- the most bytes of a text
-abbrev pub limit : ℕ
-limit = 1048576
+-- the text has these tokens, and neither is over its limit
+pub record HasTokens (text : List ℕ) (tokens : List Lexeme) : Type 0 where
+  pub short : length text ≤ limit
+  pub read : Tokens text tokens
+  pub few : length tokens ≤ most_tokens
 
--- the text has the first form, and stands for this contract
+-- moreover no token is left out, and none is deep
+pub record HasPlainTokens (text : List ℕ) (tokens : List Lexeme) : Type 0 where
+  pub within : HasTokens text tokens
+  pub none_out : HasNo IsOut tokens
+  pub none_deep : HasNo IsDeep tokens
+
+-- the text stands for this contract
 pub record HasForm (text : List ℕ) (c : Contract) : Type 0 where
-  pub tokens : List Token
-  pub read : Reads false tokens text
-  pub meaning : StandsFor tokens c
+  pub tokens : List Lexeme
+  pub read : Tokens text tokens
+  pub meaning : StandsFor (map symbol_of tokens) c
 
--- the text stands for this contract, and for no other
+-- the text has plain tokens, and stands for this contract and for no other
 pub record Means (text : List ℕ) (c : Contract) : Type 0 where
-  pub form : HasForm text c
+  pub tokens : List Lexeme
+  pub plain : HasPlainTokens text tokens
+  pub meaning : StandsFor (map symbol_of tokens) c
   pub only : (other : Contract) → HasForm text other → other ≡ c
 
--- what is due for a text, and how the program ends where it is written: the error line `Long` over the limit, the error
--- line `Unbuilt` where the text stands for no contract, and else the report of its contract
+-- the text is refused so; each case excludes those before it
+pub data IsRefused (text : List ℕ) : Refusal → Type 0 where
+  -- over the limit
+  IsLong : limit < length text → IsRefused text Long
+  -- a first fault
+  HasChar : (at : ℕ) → length text ≤ limit → FirstFault text flaw.Char at → IsRefused text (Char (place_at text at))
+  IsUnclosed : (at : ℕ) → length text ≤ limit → FirstFault text flaw.Unclosed at → IsRefused text (Unclosed (place_at text at))
+  -- a token over the limit
+  HasMany : (before after : List Lexeme) (t : Lexeme) → length text ≤ limit → Tokens text (before ++ t ∷ after) → length before ≡ most_tokens
+      → IsRefused text (Many (place_at text t.at))
+  -- a first token that is left out
+  HasOut : (tokens before : List Lexeme) (t : Lexeme) → HasTokens text tokens → IsFirst IsOut tokens before t → IsRefused text (Out (place_at text t.at))
+  -- a first token that is deep
+  HasDeep : (tokens before : List Lexeme) (t : Lexeme) → HasTokens text tokens → HasNo IsOut tokens → IsFirst IsDeep tokens before t
+      → IsRefused text (Deep (place_at text t.at))
+  -- no contract
+  IsUnbuilt : (tokens : List Lexeme) → HasPlainTokens text tokens → ((c : Contract) → HasForm text c → ⊥) → IsRefused text Unbuilt
+
+-- what is due for a text, and how the program ends where it is written: the error line of its refusal, or the report of its contract
 pub data IsDue (text due : List ℕ) (ended : Ended) : Type 0 where
-  IsLong : limit < length text → due ≡ error_text Long → ended ≡ Refused → IsDue text due ended
-  IsUnbuilt : length text ≤ limit → ((c : Contract) → HasForm text c → ⊥) → due ≡ error_text Unbuilt → ended ≡ Refused → IsDue text due ended
-  IsReported : length text ≤ limit → (c : Contract) → Means text c → Reports c due ended → IsDue text due ended
+  IsError : (refusal : Refusal) → IsRefused text refusal → due ≡ error_text refusal → ended ≡ Refused → IsDue text due ended
+  IsReported : (c : Contract) → Means text c → Reports c due ended → IsDue text due ended

@@ -4,8 +4,8 @@ use Rattle.std.specs.List.{list_all}
 use Rattle.std.specs.declared.option.Option.{Option}
 use Rattle.sv_cli.specs.Answered.{IsReadTo}
 use Rattle.sv_cli.specs.Due.{HasForm}
-use Rattle.sv_cli.specs.History.{Safe}
-use Rattle.sv_cli.specs.declared.contract.Contract.{Contract}
+use Rattle.sv_first_form.specs.declared.contract.Contract.{Contract}
+use Rattle.sv_first_judge.specs.History.{Safe}
 
 -- a line begins after these bytes: they are none, or end with a newline
 abbrev pub IsAtLineStart : List ℕ → Type 0

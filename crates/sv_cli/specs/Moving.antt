@@ -1,8 +1,8 @@
 -- How far reading and writing have come. These serve the proof: they are the invariants of the two loops.
 use Rattle.std.specs.Prelude.{◌≡◌, ℕ, ◌+◌, List, [], ◌∷◌, ◌++◌, drop, Some, None}
 use Rattle.std.specs.declared.option.Option.{Option}
-use Rattle.sv_io.specs.Calls.{Taking, Putting}
 use Rattle.sv_cli.specs.Moved.{AreRooms, ArePieces}
+use Rattle.sv_io.specs.Calls.{Taking, Putting}
 
 -- these bytes were taken so far
 abbrev pub HasTaken : Option (List ℕ) → Option (List ℕ) → List ℕ → Type 0

@@ -1,17 +1,12 @@
 -- The report: a line for each that is judged, and a last line for the contract.
-use Rattle.std.specs.Prelude.{◌≡◌, ℕ, Bool, true, false, List, [], ◌∷◌, ◌++◌, codes, if◌then◌else◌}
-use Rattle.std.specs.Fmt.{decimal}
+use Rattle.std.specs.Prelude.{◌≡◌, ℕ, Bool, List, [], ◌∷◌, ◌++◌, codes, if◌then◌else◌}
 use Rattle.std.specs.List.{list_all}
-use Rattle.sv_cli.specs.Judging.{Judged, judged_of, AreVerdicts}
-use Rattle.sv_cli.specs.declared.contract.Contract.{Contract}
 use Rattle.sv_cli.specs.declared.ended.Ended.{Ended}
 use Rattle.sv_cli.specs.declared.ended.Ended.TheVariants.{Holds, Unheld}
-use Rattle.sv_cli.specs.declared.verdict.Verdict.{Verdict}
-use Rattle.sv_cli.specs.declared.verdict.Verdict.TheVariants.{Verified, Unproved}
-
-abbrev pub verdict_text : Verdict → List ℕ
-verdict_text (Verified n) = codes "verified " ++ decimal n
-verdict_text (Unproved k) = codes "unproved invariant " ++ decimal k ++ codes " at end"
+use Rattle.sv_first_form.specs.declared.contract.Contract.{Contract}
+use Rattle.sv_first_judge.specs.Judging.{Judged, judged_of, AreVerdicts}
+use Rattle.sv_first_judge.specs.Verdict.{verdict_text, is_verified}
+use Rattle.sv_first_judge.specs.declared.verdict.Verdict.{Verdict}
 
 -- the line of one verdict, for a contract and a function of these names
 abbrev pub line_text : List ℕ → List ℕ → Verdict → List ℕ
@@ -20,10 +15,6 @@ line_text contract function verdict = contract ++ codes "." ++ function ++ codes
 abbrev pub lines_text : List ℕ → List Judged → List Verdict → List ℕ
 lines_text contract (j ∷ js) (v ∷ vs) = line_text contract j.name v ++ lines_text contract js vs
 lines_text contract _ _ = []
-
-abbrev pub is_verified : Verdict → Bool
-is_verified (Verified n) = true
-is_verified (Unproved k) = false
 
 abbrev pub last_text : List ℕ → Bool → List ℕ
 last_text contract holds = contract ++ codes ": " ++ (if holds then codes "holds" else codes "unheld") ++ codes "\n"

@@ -1,32 +1,82 @@
-ghost use Rattle.std.specs.Prelude.{◌≡◌, ◌≤◌, length, IfOk, IsErrOf};
-ghost use Rattle.sv_cli.specs.Due.{HasForm, IsDue, limit};
-ghost use Rattle.sv_cli.specs.FirstForm.{IsContract};
+ghost use Rattle.std.specs.Prelude.{◌≡◌, IfOk, MatchResult};
+ghost use Rattle.sv_cli.specs.Due.{IsDue, Means};
 ghost use Rattle.sv_cli.specs.Report.{Reports};
-ghost use Rattle.sv_cli.specs.declared.contract.Contract.{Contract};
+ghost use Rattle.sv_cli.specs.Unread.{GivesRefusal, IsUnread};
+ghost use Rattle.sv_first_form.specs.FirstForm.{IsContract};
 
-use crate::contract::Contract;
 use crate::ended::Ended;
-use crate::form_error::FormError;
-use crate::judge::judge;
-use crate::parse::parse;
 use crate::refusal::{Refusal, error_line};
 use crate::report::{all_verified, report};
-use crate::scan::scan;
 use std::alloc::Global;
+use sv_first_form::parse::parse;
+use sv_first_form::{Contract, FormError};
+use sv_first_judge::judge::judge;
+use sv_lex::{LexFault, Tokens, deep, lex, out_word};
 use sv_text::NoMemory;
+use thiserror::Error;
 
-/// The most bytes of a text.
-pub const LIMIT: usize = 1_048_576;
+/// Why a text isn't read as a contract.
+#[derive(Debug, Drop, Error)]
+enum Unread {
+    /// It is refused.
+    #[error("the text is refused")]
+    Refused(Refusal),
+    /// Memory ran out.
+    #[error("out of memory")]
+    NoMemory,
+}
+
+impl From<LexFault> for Unread {
+    ghost use Rattle.std.specs.Prelude.{◌≡◌};
+    ghost use Rattle.sv_cli.specs.Unread.{from_lex};
+
+    ghost from_gives = { λ fault e. e ≡ from_lex fault };
+
+    fn from(fault: LexFault) -> Unread {
+        match fault {
+            LexFault::Long => Unread::Refused(Refusal::Long),
+            LexFault::Char(place) => Unread::Refused(Refusal::Char(place)),
+            LexFault::Unclosed(place) => Unread::Refused(Refusal::Unclosed(place)),
+            LexFault::Many(place) => Unread::Refused(Refusal::Many(place)),
+            LexFault::NoMemory => Unread::NoMemory,
+        }
+    }
+}
+
+impl From<FormError> for Unread {
+    ghost use Rattle.std.specs.Prelude.{◌≡◌};
+    ghost use Rattle.sv_cli.specs.Unread.{from_form};
+
+    ghost from_gives = { λ error e. e ≡ from_form error };
+
+    fn from(error: FormError) -> Unread {
+        match error {
+            FormError::Unbuilt => Unread::Refused(Refusal::Unbuilt),
+            FormError::NoMemory => Unread::NoMemory,
+        }
+    }
+}
+
+/// Why a text with these tokens is refused, whatever it stands for.
+fn refusal_of(tokens: &Tokens<'_>) -> Option<Refusal>
+    ensures { GivesRefusal tokens.now result }
+{
+    if let Some(place) = out_word(tokens) {
+        return Some(Refusal::Out(place));
+    }
+    deep(tokens).map(Refusal::Deep)
+}
 
 /// The contract that a text stands for.
-fn read_contract<'a>(alloc: Global, text: &'a [u8]) -> Result<Contract<'a>, FormError>
-    requires { length text.now ≤ limit }
-    ensures form { IfOk result (λ c. HasForm text.now c) }
-    ensures only { IfOk result (λ c. (other : Contract) → HasForm text.now other → other ≡ c) }
-    ensures unbuilt { IsErrOf result FormError.Unbuilt → (c : Contract) → HasForm text.now c → ⊥ }
+fn read_contract<'a>(alloc: Global, text: &'a [u8]) -> Result<Contract<'a>, Unread>
+    ensures { MatchResult result (Means text.now) (IsUnread text.now) }
 {
-    let tokens = scan(alloc, text)?;
-    parse(alloc, &tokens)
+    let tokens = lex(alloc, text)?;
+    if let Some(refusal) = refusal_of(&tokens) {
+        return Err(Unread::Refused(refusal));
+    }
+    let contract = parse(alloc, tokens.as_slice())?;
+    Ok(contract)
 }
 
 /// The report of a contract, and how the program ends where it is written.
@@ -48,12 +98,9 @@ fn judged(alloc: Global, contract: &Contract<'_>) -> Result<(Vec<u8>, Ended), No
 pub fn due(alloc: Global, text: &[u8]) -> Result<(Vec<u8>, Ended), NoMemory>
     ensures { IfOk result (λ due. IsDue text.now due.0.items due.1) }
 {
-    if text.len() > LIMIT {
-        return Ok((error_line(alloc, Refusal::Long)?, Ended::Refused));
-    }
     match read_contract(alloc, text) {
         Ok(contract) => judged(alloc, &contract),
-        Err(FormError::Unbuilt) => Ok((error_line(alloc, Refusal::Unbuilt)?, Ended::Refused)),
-        Err(FormError::NoMemory) => Err(NoMemory),
+        Err(Unread::Refused(refusal)) => Ok((error_line(alloc, refusal)?, Ended::Refused)),
+        Err(Unread::NoMemory) => Err(NoMemory),
     }
 }

@@ -2,30 +2,18 @@
 //!
 //! Promises: `top::solsv`, which does all that the program does but for making the adapters and the book. Its clauses say what was read,
 //! what is written and how the program ends, for every source and every sink.
-//! Stands on: `sv_text`, `sv_num`, `sv_term`, `sv_io`.
+//! Stands on: `sv_lex` for tokens, `sv_first_form` for contracts, `sv_first_judge` for verdicts, `sv_io` for where bytes come from and go, and
+//! `sv_text`, `sv_term`.
 //! Read first: `specs/Answered.antt` and `specs/Due.antt`, then `src/top.rt`.
 #![tactic(auto)]
 
-mod contract;
 mod due;
 mod ended;
-mod exact;
-mod form_error;
-mod history;
-mod judge;
 mod laws;
 mod moving;
-mod parse;
 mod refusal;
 mod report;
-mod reserved;
-mod row;
-mod scan;
-mod token;
 mod top;
-mod values;
-mod verdict;
-mod wide;
 
 use ended::Ended;
 use std::process::ExitCode;

@@ -1,17 +1,43 @@
 ghost use Rattle.std.specs.Prelude.{◌≡◌, IfOk};
-ghost use Rattle.sv_cli.specs.Refusals.{error_text};
+ghost use Rattle.sv_cli.specs.Refusals.{error_text, place_of};
 
 use std::alloc::Global;
 use std::fmt;
-use sv_text::NoMemory;
+use sv_text::{NoMemory, Place};
 
-/// Why a text is refused.
+/// Why a text is refused, in the order in which reasons count.
 #[derive(Clone, Copy, Debug, PartialEq, Eq)]
 pub enum Refusal {
     /// It is over the limit.
     Long,
+    /// Its first fault is a byte that can't stand there.
+    Char(Place),
+    /// Its first fault is a comment, a string or a pragma that doesn't end.
+    Unclosed(Place),
+    /// It has too many tokens; this is the place of the first that is too many.
+    Many(Place),
+    /// A token is left out; this is the place of the first.
+    Out(Place),
+    /// A token is nested too deeply, or too far behind the beginning of its statement; this is the place of the first.
+    Deep(Place),
     /// It doesn't have the form that is read.
     Unbuilt,
+}
+
+impl Refusal {
+    /// The place of the refusal. That of a text that is refused as a whole is its first byte.
+    fn place(&self) -> Place
+        ensures { result ≡ place_of self.now }
+    {
+        match self {
+            Refusal::Long | Refusal::Unbuilt => Place { line: 1, col: 1 },
+            Refusal::Char(place)
+            | Refusal::Unclosed(place)
+            | Refusal::Many(place)
+            | Refusal::Out(place)
+            | Refusal::Deep(place) => *place,
+        }
+    }
 }
 
 impl fmt::Display for Refusal {
@@ -23,15 +49,21 @@ impl fmt::Display for Refusal {
     fn fmt<W: fmt::Write>(&self, f: &mut fmt::Formatter<W>) -> fmt::Result {
         f.write_str(match self {
             Refusal::Long => "Long",
+            Refusal::Char(_) => "Char",
+            Refusal::Unclosed(_) => "Unclosed",
+            Refusal::Many(_) => "Many",
+            Refusal::Out(_) => "Out",
+            Refusal::Deep(_) => "Deep",
             Refusal::Unbuilt => "Unbuilt",
         })
     }
 }
 
-/// The error line of a refusal. Its place is the text's first byte.
+/// The error line of a refusal.
 pub fn error_line(alloc: Global, refusal: Refusal) -> Result<Vec<u8>, NoMemory>
     ensures { IfOk result (λ line. line.items ≡ error_text refusal) }
 {
-    let line = format!(in alloc; "error 1:1 {refusal}\n")?;
-    Ok(Vec::from_slice(alloc, line.as_bytes())?)
+    let Place { line, col } = refusal.place();
+    let text = format!(in alloc; "error {line}:{col} {refusal}\n")?;
+    Ok(Vec::from_slice(alloc, text.as_bytes())?)
 }

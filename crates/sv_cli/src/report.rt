@@ -1,10 +1,11 @@
 ghost use Rattle.std.specs.Prelude.{◌≡◌, ◌+◌, ◌++◌, length, IfOk, OnOk};
 ghost use Rattle.std.specs.List.{list_all};
-ghost use Rattle.sv_cli.specs.Report.{is_verified, last_text, line_text, report_text};
+ghost use Rattle.sv_cli.specs.Report.{last_text, line_text, report_text};
+ghost use Rattle.sv_first_judge.specs.Verdict.{is_verified};
 
-use crate::contract::Contract;
-use crate::verdict::Verdict;
 use std::alloc::Global;
+use sv_first_form::Contract;
+use sv_first_judge::Verdict;
 use sv_text::NoMemory;
 
 /// Adds the line of one verdict.

@@ -51,7 +51,7 @@ fn each_answer_comes_with_its_bytes(rt: HostRuntime) -> Result<(), Fail> {
     let ran = run(alloc, TWO_COUNTERS, &[], &[])?;
     assert_eq!(rt; ran.ended, Ended::Holds);
     assert_eq!(rt; ran.bytes.as_slice(), HELD);
-    let ran = run(alloc, b"", &[], &[])?;
+    let ran = run(alloc, b"contract", &[], &[])?;
     assert_eq!(rt; ran.ended, Ended::Refused);
     assert_eq!(rt; ran.bytes.as_slice(), b"error 1:1 Unbuilt\n".as_slice());
     let ran = run(alloc, TWO_COUNTERS, &[2], &[])?;
@@ -63,16 +63,59 @@ fn each_answer_comes_with_its_bytes(rt: HostRuntime) -> Result<(), Fail> {
     Ok(())
 }
 
+const NESTED_65: &str = "(((((((((((((((((((((((((((((((((((((((((((((((((((((((((((((((((";
+
+/// Texts that are refused, with the line of each.
+const REFUSED: [(&str, &str); 9] = [
+    ("", "error 1:1 Unbuilt\n"),
+    ("contract C {\n  # }", "error 2:3 Char\n"),
+    ("contract C {} /* }", "error 1:15 Unclosed\n"),
+    // what is left out counts before what is deep, and a fault before both
+    ("contract C {}\n\timport", "error 2:2 Out\n"),
+    (NESTED_65, "error 1:65 Deep\n"),
+    (
+        "(((((((((((((((((((((((((((((((((((((((((((((((((((((((((((((((((\nimport",
+        "error 2:1 Out\n",
+    ),
+    (
+        "import (((((((((((((((((((((((((((((((((((((((((((((((((((((((((((((((((#",
+        "error 1:73 Char\n",
+    ),
+    // an annotation line ends before the newline
+    (
+        "/// @notice invariant a ==\ncontract C { uint256 a; }",
+        "error 1:1 Unbuilt\n",
+    ),
+    (
+        "/// @notice precondition a == a\ncontract C { uint256 a; }",
+        "error 1:1 Unbuilt\n",
+    ),
+];
+
 #[test]
-fn a_byte_over_the_limit_is_too_long(rt: HostRuntime) -> Result<(), Fail> {
+fn refused_texts_get_their_lines(rt: HostRuntime) -> Result<(), Fail> {
+    for (text, line) in REFUSED.iter() {
+        let ran = run(rt.alloc(), text.as_bytes(), &[], &[])?;
+        assert_eq!(rt; ran.ended, Ended::Refused);
+        assert!(rt; ran.bytes.as_slice() == line.as_bytes(), "{line}");
+    }
+    Ok(())
+}
+
+#[test]
+fn limits_are_kept_to_the_byte_and_the_token(rt: HostRuntime) -> Result<(), Fail> {
     let alloc = rt.alloc();
-    let text = vec![in alloc; b' '; 1_048_577]?;
-    let ran = run(alloc, &text, &[], &[])?;
-    assert_eq!(rt; ran.ended, Ended::Refused);
-    assert_eq!(rt; ran.bytes.as_slice(), b"error 1:1 Long\n".as_slice());
-    let ran = run(alloc, &text[1..], &[], &[])?;
-    assert_eq!(rt; ran.ended, Ended::Refused);
-    assert_eq!(rt; ran.bytes.as_slice(), b"error 1:1 Unbuilt\n".as_slice());
+    for (byte, count, line) in [
+        (b' ', 1_048_577, "error 1:1 Long\n"),
+        (b' ', 1_048_576, "error 1:1 Unbuilt\n"),
+        (b';', 200_001, "error 1:200001 Many\n"),
+        (b';', 200_000, "error 1:1 Unbuilt\n"),
+    ] {
+        let text = vec![in alloc; byte; count]?;
+        let ran = run(alloc, &text, &[], &[])?;
+        assert_eq!(rt; ran.ended, Ended::Refused);
+        assert!(rt; ran.bytes.as_slice() == line.as_bytes(), "{line}");
+    }
     Ok(())
 }
 

@@ -1,16 +1,19 @@
 ghost use Rattle.std.specs.Prelude.{◌≡◌, ◌≢◌, ◌+◌, ◌≤◌, ◌⊎◌, ◌↔◌, List, ℕ, Some, IfOk, IsErrOf};
 ghost use Rattle.sv_io.specs.Moves.{Rose};
 ghost use Rattle.sv_cli.specs.Answered.{Answered, IsCut, IsDueFrom, IsDueWithin, IsListed, IsWhole, Sank, texts};
-ghost use Rattle.sv_cli.specs.Due.{limit};
 ghost use Rattle.sv_cli.specs.Headline.{HoldsTruly};
 ghost use Rattle.sv_cli.specs.Moved.{GivesRooms};
+ghost use Rattle.sv_lex.specs.Lexing.{limit};
 
-use crate::due::{LIMIT, due};
+use crate::due::due;
 use crate::ended::Ended;
 use crate::moving::{ReadError, put_all, read_up_to};
 use std::alloc::Global;
 use sv_io::{Sink, Source};
 use sv_term::RuleBook;
+
+/// The most bytes of a text.
+const LIMIT: usize = 1_048_576;
 
 /// What is due by what a source gives, and how the program ends where it is written.
 fn due_from<S: Source>(

@@ -1,4 +1,4 @@
-use Rattle.sv_cli.proofs.OneVerdict.{due_is_one}
+use Rattle.sv_cli.proofs.OneDue.{due_is_one}
 use Rattle.sv_cli.proofs.laws.due_is_one.Goals as goal
 
 pub returns : goal.returns

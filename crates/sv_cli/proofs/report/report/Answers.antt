@@ -1,8 +1,8 @@
 use Rattle.std.proofs.Common.{◌≡◌, ◌+◌, ◌-◌, ◌++◌, length, List, ℕ, Bool, slice_index_or, codes, get_or, ap, sym, ◌∙◌, arith}
-use Rattle.sv_cli.specs.Judging.{judged_of}
+use Rattle.sv_first_judge.specs.Judging.{judged_of}
 use Rattle.sv_cli.specs.Report.{last_text, line_text, lines_text}
-use Rattle.sv_cli.specs.declared.contract.Function.{Function}
-use Rattle.sv_cli.specs.declared.verdict.Verdict.TheVariants.{Verified}
+use Rattle.sv_first_form.specs.declared.contract.Function.{Function}
+use Rattle.sv_first_judge.specs.declared.verdict.Verdict.TheVariants.{Verified}
 use Rattle.sv_cli.proofs.ReportLines.{function_line, gift_line, advance}
 use Rattle.sv_cli.proofs.report.report.Goals as goal
 

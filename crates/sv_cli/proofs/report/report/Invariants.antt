@@ -1,5 +1,5 @@
 use Rattle.std.proofs.Common.{◌≡◌, ◌+◌, ◌++◌, drop}
-use Rattle.sv_cli.specs.Judging.{judged_of}
+use Rattle.sv_first_judge.specs.Judging.{judged_of}
 use Rattle.sv_cli.specs.Report.{lines_text}
 use Rattle.sv_cli.proofs.report.report.Given as goal
 

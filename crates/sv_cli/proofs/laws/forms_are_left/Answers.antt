@@ -1,5 +1,0 @@
-use Rattle.sv_cli.proofs.Soundness.{forms_are_left}
-use Rattle.sv_cli.proofs.laws.forms_are_left.Goals as goal
-
-pub returns : goal.returns
-returns c = forms_are_left

@@ -1,6 +1,0 @@
-use Rattle.std.proofs.Common.{◌≡◌, ◌++◌, take, map}
-use Rattle.sv_cli.specs.Parts.{AreNames}
-use Rattle.sv_cli.proofs.parse.declare.declare_functions.Given as goal
-
-abbrev pub invariant-loop-function : goal.invariant-loop-function
-invariant-loop-function l = (l.names ≡ l.fn.names ++ map (λ f. f.name) (take l.function-index l.functions)) × AreNames l.names

@@ -1,6 +1,0 @@
-use Rattle.std.proofs.Common.{◌≡◌, ◌++◌, take}
-use Rattle.sv_cli.specs.Parts.{AreNames}
-use Rattle.sv_cli.proofs.parse.declare.declare_variables.Given as goal
-
-abbrev pub invariant-loop-variable : goal.invariant-loop-variable
-invariant-loop-variable l = (l.names ≡ l.fn.names ++ take l.variable-index l.variables) × AreNames l.names

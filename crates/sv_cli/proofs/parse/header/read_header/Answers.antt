@@ -1,9 +1,0 @@
-use Rattle.sv_cli.proofs.Sequences.{both_first}
-use Rattle.sv_cli.proofs.SumParts.{exact_precedes, text_precedes}
-use Rattle.sv_cli.proofs.WholeParts.{header_first}
-use Rattle.sv_cli.proofs.parse.header.read_header.Goals as goal
-
-pub returns : goal.returns
-returns c =
-    header_first (both_first (exact_precedes _ _) c.in_ok-expect.ensures (both_first (text_precedes _ _) c.in_ok-name.ensures
-    (both_first (exact_precedes _ _) c.in_ok-expect-2.ensures c.in_ok-variables.ensures)))

@@ -1,8 +1,0 @@
-use Rattle.std.proofs.Common.{◌∙◌, sym}
-use Rattle.sv_cli.proofs.Leaves.{number_first}
-use Rattle.sv_cli.proofs.parse.sum.number.Goals as goal
-
-pub returns-in-Some : goal.returns-in-Some
-returns-in-Some c =
-    let written = c.in-Some.ensures.written in
-    number_first (sym c.bytes.ensures ∙ written.0) written.1 c.in_ok-text.ensures

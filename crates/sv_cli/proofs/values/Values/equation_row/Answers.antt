@@ -1,9 +1,0 @@
-use Rattle.sv_cli.specs.Assignments.{count_of}
-use Rattle.sv_cli.specs.Rows.{weight_of}
-use Rattle.sv_cli.proofs.WeightLemmas.{room_for_difference}
-use Rattle.sv_cli.proofs.values.Values.equation_row.Goals as goal
-
-pub minus-requires : goal.minus-requires
-minus-requires c =
-    let values = c.args.self.now in
-    room_for_difference (count_of values) (weight_of c.in_ok-left.left) (weight_of c.in_ok-right.right) values.few c.in_ok-left.ensures.weight c.in_ok-right.ensures.weight

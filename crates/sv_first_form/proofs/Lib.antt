@@ -1,0 +1,13 @@
+pub mod ActParts
+pub mod Choices
+pub mod Leaves
+pub mod Names
+pub mod Numerals
+pub mod Opening
+pub mod Repeats
+pub mod Rules
+pub mod Sequences
+pub mod Standing
+pub mod SumParts
+pub mod Whole
+pub mod WholeParts

@@ -1,0 +1,11 @@
+use Rattle.std.proofs.Common.{length, map}
+use Rattle.sv_first_form.specs.Parts.{note_part, EndsNotes}
+use Rattle.sv_first_form.specs.Reading.{IsSofar}
+use Rattle.sv_first_form.specs.Symbols.{symbol}
+use Rattle.sv_first_form.proofs.parse.note.notes.Given as goal
+
+abbrev pub invariant-notes : goal.invariant-notes
+invariant-notes l = IsSofar (note_part l.names) EndsNotes (map symbol l.fn.tokens) l.notes l.cursor
+
+abbrev pub decreases-notes : goal.decreases-notes
+decreases-notes l = length l.cursor

@@ -1,0 +1,7 @@
+use Rattle.std.proofs.Common.{Contains, map, take}
+use Rattle.sv_first_form.specs.Parts.{contract_word}
+use Rattle.sv_first_form.specs.Symbols.{symbol}
+use Rattle.sv_first_form.proofs.parse.split_at_contract.Given as goal
+
+abbrev pub invariant-loop-at : goal.invariant-loop-at
+invariant-loop-at l = Contains (map symbol (take l.at l.tokens)) contract_word → ⊥

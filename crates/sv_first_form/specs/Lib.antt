@@ -1,0 +1,5 @@
+pub mod Symbols
+pub mod FirstForm
+pub mod Reading
+pub mod Numeral
+pub mod Parts

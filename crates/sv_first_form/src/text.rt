@@ -1,0 +1,33 @@
+ghost use Rattle.std.specs.Prelude.{◌≡◌};
+
+use std::marker::Model;
+
+/// A slice of the text that is read. A contract sees its bytes.
+#[derive(Drop)]
+pub struct Text<'a> {
+    bytes: &'a [u8],
+}
+
+impl<'a> Model for Text<'a> {
+    ghost use Rattle.std.specs.Prelude.{List, ℕ};
+
+    ghost Value = { List ℕ };
+
+    ghost view = { λ t. t.bytes.now };
+}
+
+impl<'a> Text<'a> {
+    /// The slice of these bytes.
+    pub fn new(bytes: &'a [u8]) -> Text<'a>
+        ensures { result ≡ bytes.now }
+    {
+        Text { bytes }
+    }
+
+    /// The bytes of the slice.
+    pub fn bytes(&self) -> &'a [u8]
+        ensures { result.now ≡ self.now }
+    {
+        self.bytes
+    }
+}

@@ -1,0 +1,12 @@
+pub mod Added
+pub mod AssignedLemmas
+pub mod ColumnLemmas
+pub mod ContractLemmas
+pub mod FormLemmas
+pub mod HistoryLemmas
+pub mod NumberLemmas
+pub mod PointLemmas
+pub mod RowLemmas
+pub mod Soundness
+pub mod ValueLemmas
+pub mod WeightLemmas

@@ -1,0 +1,11 @@
+pub mod LinearForm
+pub mod Judging
+pub mod Verdict
+pub mod History
+pub mod Value
+pub mod Laws
+pub mod Marks
+pub mod Rows
+pub mod Weights
+pub mod Assignments
+pub mod Points
