@@ -10,7 +10,6 @@ use Rattle.sv_first_form.specs.declared.contract.Equation.{Equation}
 use Rattle.sv_first_form.specs.declared.contract.Function.{Function}
 use Rattle.sv_first_form.specs.declared.contract.Item.{Item}
 use Rattle.sv_first_form.specs.declared.contract.Item.TheVariants.{Variable, Number as NumberItem}
-use Rattle.sv_first_form.specs.declared.reserved.TheConstants.{RESERVED}
 use Rattle.sv_lex.specs.Bytes.{is_letter}
 use Rattle.sv_lex.specs.declared.tok.Tok.TheVariants.{Word, Number, Punct, Note, End}
 
@@ -73,7 +72,20 @@ contract_tokens c =
 
 -- the words of one to eight letters that are no names
 unfoldable pub reserved : List (List ℕ)
-reserved = map (λ word. word.now) RESERVED
+reserved =
+    codes "abstract" ∷ codes "address" ∷ codes "bool" ∷ codes "break" ∷ codes "calldata" ∷ codes "constant" ∷ codes "continue" ∷ codes "contract" ∷
+    codes "days" ∷ codes "delete" ∷ codes "else" ∷ codes "emit" ∷ codes "enum" ∷ codes "ether" ∷ codes "event" ∷ codes "external" ∷ codes "fallback" ∷
+    codes "false" ∷ codes "for" ∷ codes "function" ∷ codes "gwei" ∷ codes "hours" ∷ codes "if" ∷ codes "indexed" ∷ codes "int" ∷ codes "internal" ∷
+    codes "is" ∷ codes "mapping" ∷ codes "memory" ∷ codes "minutes" ∷ codes "modifier" ∷ codes "new" ∷ codes "override" ∷ codes "payable" ∷
+    codes "pragma" ∷ codes "private" ∷ codes "public" ∷ codes "pure" ∷ codes "receive" ∷ codes "return" ∷ codes "returns" ∷ codes "seconds" ∷
+    codes "storage" ∷ codes "string" ∷ codes "struct" ∷ codes "super" ∷ codes "this" ∷ codes "true" ∷ codes "type" ∷ codes "uint" ∷ codes "view" ∷
+    codes "virtual" ∷ codes "weeks" ∷ codes "wei" ∷ codes "while" ∷ codes "after" ∷ codes "alias" ∷ codes "apply" ∷ codes "auto" ∷ codes "case" ∷
+    codes "copyof" ∷ codes "default" ∷ codes "define" ∷ codes "final" ∷ codes "in" ∷ codes "inline" ∷ codes "let" ∷ codes "macro" ∷ codes "match" ∷
+    codes "mutable" ∷ codes "null" ∷ codes "of" ∷ codes "partial" ∷ codes "promise" ∷ codes "sealed" ∷ codes "sizeof" ∷ codes "static" ∷
+    codes "supports" ∷ codes "switch" ∷ codes "typedef" ∷ codes "typeof" ∷ codes "var" ∷ codes "abi" ∷ codes "addmod" ∷ codes "assembly" ∷ codes "byte" ∷
+    codes "bytes" ∷ codes "callcode" ∷ codes "catch" ∷ codes "do" ∷ codes "fixed" ∷ codes "gasleft" ∷ codes "hex" ∷ codes "import" ∷ codes "library" ∷
+    codes "mulmod" ∷ codes "suicide" ∷ codes "try" ∷ codes "tx" ∷ codes "ufixed" ∷ codes "unicode" ∷ codes "using" ∷ codes "assert" ∷ codes "block" ∷
+    codes "error" ∷ codes "msg" ∷ codes "require" ∷ codes "revert" ∷ codes "value" ∷ []
 
 -- a name: one to eight letters, and not reserved
 pub record IsName (text : List ℕ) : Type 0 where

@@ -1,8 +1,7 @@
 -- The forms of tokens.
-use Rattle.std.specs.Prelude.{◌≡◌, ◌≢◌, ◌==◌, ℕ, ◌≤◌, ◌⊎◌, Bool, true, false, not, ◌&&◌, ◌||◌, if◌then◌else◌, List, [], ◌∷◌, ◌++◌, Contains, codes, length, map, nat_eq, nat_le}
+use Rattle.std.specs.Prelude.{◌≡◌, ◌≢◌, ◌==◌, ℕ, ◌≤◌, ◌⊎◌, Bool, true, false, not, ◌&&◌, ◌||◌, if◌then◌else◌, List, [], ◌∷◌, ◌++◌, Contains, codes, length, nat_eq, nat_le}
 use Rattle.std.specs.List.{AllPass, list_any, starts_with}
 use Rattle.sv_lex.specs.Bytes.{is_digit, is_hex_digit, begins_word, continues_word, is_separator, is_semicolon, is_quote, DoesNotBegin, DoesBegin}
-use Rattle.sv_lex.specs.declared.mark.TheConstants.{MARKS, OPENERS}
 use Rattle.sv_lex.specs.declared.tok.Tok.{Tok}
 use Rattle.sv_lex.specs.declared.tok.Tok.TheVariants.{Word, Number, Hex, Str, Punct, Pragma, Note, End}
 
@@ -87,11 +86,16 @@ pub record IsString (bytes : List ℕ) : Type 0 where
 
 -- all punctuation, left-out operators included
 unfoldable pub marks : List (List ℕ)
-marks = map (λ mark. mark.now) MARKS
+marks =
+    codes ">>>=" ∷ codes ">>>" ∷ codes "<<=" ∷ codes ">>=" ∷ codes "=>" ∷ codes "==" ∷ codes "!=" ∷ codes "<=" ∷ codes ">=" ∷ codes "**" ∷ codes "++" ∷
+    codes "--" ∷ codes "+=" ∷ codes "-=" ∷ codes "*=" ∷ codes "/=" ∷ codes "%=" ∷ codes "&&" ∷ codes "||" ∷ codes "<<" ∷ codes ">>" ∷ codes "&=" ∷
+    codes "|=" ∷ codes "^=" ∷ codes "(" ∷ codes ")" ∷ codes "[" ∷ codes "]" ∷ codes "{" ∷ codes "}" ∷ codes ";" ∷ codes "," ∷ codes "." ∷ codes "?" ∷
+    codes ":" ∷ codes "=" ∷ codes "<" ∷ codes ">" ∷ codes "+" ∷ codes "-" ∷ codes "*" ∷ codes "/" ∷ codes "%" ∷ codes "!" ∷ codes "&" ∷ codes "|" ∷
+    codes "^" ∷ codes "~" ∷ []
 
 -- how comments begin
 unfoldable pub openers : List (List ℕ)
-openers = map (λ opener. opener.now) OPENERS
+openers = codes "//" ∷ codes "/*" ∷ []
 
 -- no longer punctuation, and no comment, begins where these bytes do
 abbrev pub IsLongest : List ℕ → List ℕ → Type 0

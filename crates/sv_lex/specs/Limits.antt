@@ -1,9 +1,8 @@
 -- The first token that is left out, and the first that is nested too deeply or too far behind its statement's beginning.
-use Rattle.std.specs.Prelude.{◌≡◌, ℕ, ◌+◌, ◌-◌, ◌<◌, ◌≤◌, ◌⊎◌, Bool, true, false, ◌||◌, if◌then◌else◌, List, [], ◌∷◌, ◌++◌, All, codes, length, map, nat_eq}
+use Rattle.std.specs.Prelude.{◌≡◌, ℕ, ◌+◌, ◌-◌, ◌<◌, ◌≤◌, ◌⊎◌, Bool, true, false, ◌||◌, if◌then◌else◌, List, [], ◌∷◌, ◌++◌, All, codes, length, nat_eq}
 use Rattle.std.specs.List.{list_any}
 use Rattle.std.specs.Cmp.Lexicographic.{pointwise}
 use Rattle.sv_lex.specs.Tokens.{Lexeme}
-use Rattle.sv_lex.specs.declared.left_out.TheConstants.{LEFT_OUT_WORDS, LEFT_OUT_MARKS}
 use Rattle.sv_lex.specs.declared.tok.Tok.{Tok}
 use Rattle.sv_lex.specs.declared.tok.Tok.TheVariants.{Word, Punct, End}
 
@@ -11,11 +10,23 @@ use Rattle.sv_lex.specs.declared.tok.Tok.TheVariants.{Word, Punct, End}
 abbrev pub is_among : List (List ℕ) → List ℕ → Bool
 is_among texts text = list_any (pointwise nat_eq text) texts
 
+-- the words of Solidity that are left out
 unfoldable pub left_out_words : List (List ℕ)
-left_out_words = map (λ word. word.now) LEFT_OUT_WORDS
+left_out_words =
+    codes "import" ∷ codes "library" ∷ codes "using" ∷ codes "assembly" ∷ codes "try" ∷ codes "catch" ∷ codes "do" ∷ codes "delegatecall" ∷
+    codes "staticcall" ∷ codes "callcode" ∷ codes "selfdestruct" ∷ codes "suicide" ∷ codes "abi" ∷ codes "keccak256" ∷ codes "sha256" ∷
+    codes "ripemd160" ∷ codes "ecrecover" ∷ codes "blockhash" ∷ codes "gasleft" ∷ codes "addmod" ∷ codes "mulmod" ∷ codes "tx" ∷ codes "bytes" ∷
+    codes "byte" ∷ codes "fixed" ∷ codes "ufixed" ∷ codes "unicode" ∷ codes "hex" ∷ codes "transient" ∷ codes "bytes1" ∷ codes "bytes2" ∷
+    codes "bytes3" ∷ codes "bytes4" ∷ codes "bytes5" ∷ codes "bytes6" ∷ codes "bytes7" ∷ codes "bytes8" ∷ codes "bytes9" ∷ codes "bytes10" ∷
+    codes "bytes11" ∷ codes "bytes12" ∷ codes "bytes13" ∷ codes "bytes14" ∷ codes "bytes15" ∷ codes "bytes16" ∷ codes "bytes17" ∷ codes "bytes18" ∷
+    codes "bytes19" ∷ codes "bytes20" ∷ codes "bytes21" ∷ codes "bytes22" ∷ codes "bytes23" ∷ codes "bytes24" ∷ codes "bytes25" ∷ codes "bytes26" ∷
+    codes "bytes27" ∷ codes "bytes28" ∷ codes "bytes29" ∷ codes "bytes30" ∷ codes "bytes31" ∷ codes "bytes32" ∷ []
 
+-- its operators that are left out
 unfoldable pub left_out_marks : List (List ℕ)
-left_out_marks = map (λ mark. mark.now) LEFT_OUT_MARKS
+left_out_marks =
+    codes "&" ∷ codes "|" ∷ codes "^" ∷ codes "~" ∷ codes "<<" ∷ codes ">>" ∷ codes ">>>" ∷ codes "&=" ∷ codes "|=" ∷ codes "^=" ∷ codes "<<=" ∷
+    codes ">>=" ∷ codes ">>>=" ∷ []
 
 -- a word that is left out, or an operator
 abbrev pub is_left_out : Tok → List ℕ → Bool

@@ -9,7 +9,7 @@ use crate::tokens::Tokens;
 use sv_text::Place;
 
 /// The words that are left out.
-pub const LEFT_OUT_WORDS: [&[u8]; 61] = [
+const LEFT_OUT_WORDS: [&[u8]; 61] = [
     b"import",
     b"library",
     b"using",
@@ -74,7 +74,7 @@ pub const LEFT_OUT_WORDS: [&[u8]; 61] = [
 ];
 
 /// The operators that are left out.
-pub const LEFT_OUT_MARKS: [&[u8]; 13] = [
+const LEFT_OUT_MARKS: [&[u8]; 13] = [
     b"&", b"|", b"^", b"~", b"<<", b">>", b">>>", b"&=", b"|=", b"^=", b"<<=", b">>=", b">>>=",
 ];
 

@@ -5,15 +5,12 @@ ghost use Rattle.sv_lex.specs.Forms.{marks};
 ghost use Rattle.sv_lex.specs.Longest.{IsLongestSuch, longest_first};
 
 /// The punctuation of Solidity, operators that are left out included. Longer ones come first.
-pub const MARKS: [&[u8]; 48] = [
+const MARKS: [&[u8]; 48] = [
     b">>>=", b">>>", b"<<=", b">>=", b"=>", b"==", b"!=", b"<=", b">=", b"**", b"++", b"--", b"+=",
     b"-=", b"*=", b"/=", b"%=", b"&&", b"||", b"<<", b">>", b"&=", b"|=", b"^=", b"(", b")", b"[",
     b"]", b"{", b"}", b";", b",", b".", b"?", b":", b"=", b"<", b">", b"+", b"-", b"*", b"/", b"%",
     b"!", b"&", b"|", b"^", b"~",
 ];
-
-/// How a comment begins.
-pub const OPENERS: [&[u8]; 2] = [b"//", b"/*"];
 
 /// The length of the longest of these fronts with which the text begins; 0 where none is. Longer ones come first.
 fn front_len(fronts: &[&[u8]], text: &[u8]) -> usize
