@@ -1,9 +1,11 @@
 """Texts and the line that is due for each, worked by hand: tokens, their faults, and the limits. A text that has tokens goes on
-with the left-out word `library`, so that the place of its error line tells where the tokens before it end."""
+with the left-out word `library`, so that the place of its error line tells where the tokens before it end. A text within the
+limits has a tree and isn't of the first form, so `error 1:1 Unbuilt` is due."""
 
 OUT = b" library"
 NOTE = b"/// @notice invariant "
 BLOCK = b"/** @notice invariant "
+NESTED = b"(" * 63 + b"1" + b")" * 63
 
 # name, text, the line without its newline
 CASES = [
@@ -94,14 +96,14 @@ CASES = [
     ("left-out words in comments and strings", b"/* tx */ 'tx' // tx\n" + OUT, "error 2:2 Out"),
     ("a fault before a left-out word", b"library 08", "error 1:10 Char"),
     # nesting
-    ("64 brackets", b"(" * 64, "error 1:1 Unbuilt"),
+    ("64 brackets, the brace among them", b"contract C1 { T a = " + NESTED + b"; }", "error 1:1 Unbuilt"),
     ("65 brackets", b"[" * 65 + b"a", "error 1:65 Deep"),
     ("brackets closed where none is open", b")" * 9 + b"{" * 65, "error 1:74 Deep"),
-    ("64 brackets twice", (b"(" * 64 + b")" * 64) * 2, "error 1:1 Unbuilt"),
-    ("1,000 tokens", b"a " * 1000, "error 1:1 Unbuilt"),
+    ("64 brackets twice", b"contract C1 { T a = " + NESTED + b"; T b = " + NESTED + b"; }", "error 1:1 Unbuilt"),
+    ("1,000 tokens", b"contract C1 is A(" + b"- " * 992 + b"1) { }", "error 1:1 Unbuilt"),
     ("1,001 tokens", b"a " * 1001, "error 1:2001 Deep"),
     ("1,000 tokens and a semicolon", b"a " * 1000 + b";", "error 1:2001 Deep"),
-    ("999 tokens and a semicolon, twice", (b"a " * 999 + b";") * 2, "error 1:1 Unbuilt"),
+    ("999 tokens and a semicolon, twice", b"contract C1 { " + (b"T a = " + b"- " * 995 + b"1; ") * 2 + b"}", "error 1:1 Unbuilt"),
     ("1,001 tokens behind a note", NOTE + b"\n" + b"a " * 1001, "error 2:2001 Deep"),
     ("out before deep", b"(" * 65 + b"tx", "error 1:66 Out"),
     # many
