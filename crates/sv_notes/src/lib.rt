@@ -13,4 +13,6 @@ pub use lines::note_lines;
 pub use parse::read_notes;
 
 #[cfg(test)]
+mod expr_tests;
+#[cfg(test)]
 mod tests;

@@ -32,6 +32,3 @@ pub use reader::{Reader, read_args, read_expr, read_type};
 pub use symbol::Symbol;
 pub use symbols::symbols_of;
 pub use types::{optional_id, sees_expr};
-
-#[cfg(test)]
-mod tests;

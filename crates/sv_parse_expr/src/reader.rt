@@ -4,13 +4,13 @@
 ghost use Rattle.std.specs.Prelude.{◌≡◌, ◌<◌, ◌≤◌, length, IfOk};
 ghost use Rattle.sv_grammar.specs.Grammar.{side};
 ghost use Rattle.sv_ast.specs.Syntax as g;
-ghost use Rattle.sv_ast.specs.ExprTrees.{expr_tree, post_tree, args_tree, type_tree};
+ghost use Rattle.sv_ast.specs.ExprTrees.{expr_tree, args_tree, type_tree};
 ghost use Rattle.sv_parse_expr.specs.Nests.{Nests};
 ghost use Rattle.sv_parse_expr.specs.Reading.{Answered};
 
 use crate::input::Input;
 use crate::parse_error::ParseError;
-use sv_ast::{Args, Expr, Post, TypeExpr};
+use sv_ast::{Args, Expr, TypeExpr};
 
 /// Reads parts of expressions; `expr` reads the expressions in them, behind the position `floor`.
 #[derive(Clone, Copy)]

@@ -1,7 +1,7 @@
-use crate::{ParseFault, parse_args, parse_expr, parse_type};
 use std::alloc::Global;
 use std::test::Fail;
 use sv_lex::{deep, lex};
+use sv_parse_expr::{ParseFault, parse_args, parse_expr, parse_type};
 use sv_text::{Names, Place};
 
 #[derive(Clone, Copy)]
@@ -11,7 +11,7 @@ enum Part {
     Args,
 }
 
-/// Texts worked by hand, each with the number of tokens that the part takes, or the column of the fault.
+/// Texts of expressions, types and arguments worked by hand, each with the number of tokens that the part takes, or the column of the fault.
 const CASES: [(Part, &[u8], Result<usize, u32>); 83] = [
     // read to the end
     (Part::Expr, b"a ? b : c || d && e == f != g", Ok(13)),

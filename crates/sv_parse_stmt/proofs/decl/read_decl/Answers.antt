@@ -1,0 +1,6 @@
+use Rattle.std.proofs.Common.{refl}
+use Rattle.sv_parse_expr.proofs.Reading.{gives_seq, gives_side}
+use Rattle.sv_parse_stmt.proofs.decl.read_decl.Goals as goal
+
+pub returns-clause-reads : goal.returns-clause-reads
+returns-clause-reads c = gives_side refl c.extent-lies.ensures (gives_seq c.in_ok-of_type.ensures.reads c.in-Ok.ensures.reads)

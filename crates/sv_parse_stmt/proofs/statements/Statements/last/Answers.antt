@@ -1,0 +1,17 @@
+use Rattle.std.proofs.Common.{rules}
+use Rattle.sv_grammar.specs.Grammar.{side}
+use Rattle.sv_ast.specs.Syntax as s
+use Rattle.sv_parse_expr.specs.Reading.{Fails}
+use Rattle.sv_ast.proofs.StmtLaws.{else_is}
+use Rattle.sv_parse_expr.proofs.Reading.{fails_seq, fails_side}
+use Rattle.sv_parse_stmt.proofs.IfReading.{gives_last, fails_last_branch}
+use Rattle.sv_parse_stmt.proofs.statements.Statements.last.Goals as goal
+
+pub returns-clause-reads : goal.returns-clause-reads
+returns-clause-reads g c = gives_last (else_is _ _ _ _) c.extent-lies.ensures c.requires.no_further c.in_ok-behind.ensures.reads c.in_ok-body.ensures.reads
+
+pub returns-in_err-behind-clause-reads : goal.returns-in_err-behind-clause-reads
+returns-in_err-behind-clause-reads g c = let failed : Fails c.args.input.now (side s.else_part) c.args.at _ = fails_side (fails_seq c.in_err-behind.ensures.reads) in search rules
+
+pub returns-in_err-body-clause-reads : goal.returns-in_err-body-clause-reads
+returns-in_err-body-clause-reads g c = let failed = fails_last_branch c.requires.no_further c.in_ok-behind.ensures.reads c.in_err-body.ensures.reads in search rules
