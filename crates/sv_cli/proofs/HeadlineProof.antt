@@ -14,7 +14,7 @@ use Rattle.sv_cli.specs.Refusals.{error_text, kind_text, place_of}
 use Rattle.sv_cli.specs.Report.{lines_text, last_text}
 use Rattle.sv_cli.specs.declared.ended.Ended.{Ended}
 use Rattle.sv_cli.specs.declared.refusal.Refusal.{Refusal}
-use Rattle.sv_cli.specs.declared.refusal.Refusal.TheVariants.{Long, Char, Unclosed, Many, Out, Deep, Unbuilt}
+use Rattle.sv_cli.specs.declared.refusal.Refusal.TheVariants.{Long, Char, Unclosed, Many, Out, Deep, Syntax, Unbuilt}
 use Rattle.sv_first_form.specs.FirstForm.{IsName, IsContract}
 use Rattle.sv_first_form.specs.declared.contract.Contract.{Contract}
 use Rattle.sv_first_form.specs.declared.contract.Function.{Function}
@@ -110,6 +110,7 @@ free_kind (Unclosed place) = refl
 free_kind (Many place) = refl
 free_kind (Out place) = refl
 free_kind (Deep place) = refl
+free_kind (Syntax place) = refl
 free_kind Unbuilt = refl
 
 -- the kind begins with a byte, and doesn't end with an `s`
@@ -120,6 +121,7 @@ kind_end (Unclosed place) = (85, codes "nclosed", refl, λ e. omega arith)
 kind_end (Many place) = (77, codes "any", refl, λ e. omega arith)
 kind_end (Out place) = (79, codes "ut", refl, λ e. omega arith)
 kind_end (Deep place) = (68, codes "eep", refl, λ e. omega arith)
+kind_end (Syntax place) = (83, codes "yntax", refl, λ e. omega arith)
 kind_end Unbuilt = (85, codes "nbuilt", refl, λ e. omega arith)
 
 error_end : (refusal : Refusal) (name : List ℕ) → HasLine (error_text refusal) (name ++ codes ": holds") → ⊥

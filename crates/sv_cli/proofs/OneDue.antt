@@ -1,16 +1,18 @@
--- What is due for a text is one: a text has one first fault or one list of tokens, and stands for one contract.
+-- What is due for a text is one: a text has one first fault or one list of tokens, its tokens have a tree or one first fault, and it stands for
+-- one contract.
 use Rattle.std.proofs.Common.{◌≡◌, ℕ, ◌<◌, ◌≤◌, List, ◌∷◌, ◌++◌, length, refl, sym, ap, subst, ◌∙◌, arith, length-append}
 use Rattle.sv_cli.proofs.Cuts.{one_there, one_first}
 use Rattle.sv_cli.proofs.OneVerdict.{one_report}
 use Rattle.sv_cli.specs.Due.{HasTokens, HasPlainTokens, HasForm, Means, IsDue, IsRefused}
 use Rattle.sv_cli.specs.Due.IsDue.{IsError, IsReported}
-use Rattle.sv_cli.specs.Due.IsRefused.{IsLong, HasChar, IsUnclosed, HasMany, HasOut, HasDeep, IsUnbuilt}
+use Rattle.sv_cli.specs.Due.IsRefused.{IsLong, HasChar, IsUnclosed, HasMany, HasOut, HasDeep, HasNoTree, IsUnbuilt}
 use Rattle.sv_cli.specs.Refusals.{error_text}
 use Rattle.sv_cli.specs.Report.{Reports}
+use Rattle.sv_cli.specs.Trees.{HasTree, IsTreeless, BeginsTree, place_behind}
 use Rattle.sv_cli.specs.declared.ended.Ended.{Ended}
 use Rattle.sv_cli.specs.declared.ended.Ended.TheVariants.{Refused}
 use Rattle.sv_cli.specs.declared.refusal.Refusal.{Refusal}
-use Rattle.sv_cli.specs.declared.refusal.Refusal.TheVariants.{Long, Char, Unclosed, Many, Out, Deep, Unbuilt}
+use Rattle.sv_cli.specs.declared.refusal.Refusal.TheVariants.{Long, Char, Unclosed, Many, Out, Deep, Syntax, Unbuilt}
 use Rattle.sv_first_form.specs.declared.contract.Contract.{Contract}
 use Rattle.sv_lex.proofs.TokenLaws.{list_is_one, fault_excludes_list, fault_is_one}
 use Rattle.sv_lex.specs.Faults.{FirstFault}
@@ -69,6 +71,11 @@ module _ (text : List ℕ) where
       (tokens : List Lexeme) × (before : List Lexeme) × (t : Lexeme) × Tokens text tokens × IsFirst Such tokens before t
       × (a ≡ error (refusal (place_at text t.at)))
 
+  abbrev IsSyntaxDue : Answer → Type 0
+  IsSyntaxDue a =
+      (tokens : List Lexeme) × (reach : ℕ) × Tokens text tokens × IsTreeless text tokens × BeginsTree text tokens reach
+      × (a ≡ error (Syntax (place_behind text tokens reach)))
+
   abbrev IsUnbuiltDue : Answer → Type 0
   IsUnbuiltDue a = ((c : Contract) → HasForm text c → ⊥) × (a ≡ error Unbuilt)
 
@@ -78,8 +85,11 @@ module _ (text : List ℕ) where
   abbrev IsLast : Answer → Type 0
   IsLast = First IsUnbuiltDue IsReportDue
 
+  abbrev IsByTree : Answer → Type 0
+  IsByTree = First IsSyntaxDue IsLast
+
   abbrev IsInLimits : Answer → Type 0
-  IsInLimits = First (IsFirstDue IsOut Out) (First (IsFirstDue IsDeep Deep) IsLast)
+  IsInLimits = First (IsFirstDue IsOut Out) (First (IsFirstDue IsDeep Deep) IsByTree)
 
   abbrev IsAny : Answer → Type 0
   IsAny = First IsLongDue (First IsFaultDue (First IsManyDue IsInLimits))
@@ -103,6 +113,18 @@ module _ (text : List ℕ) where
       let same = one_first Such tokens front front' t t' first there in
       is ∙ ap (λ (l : Lexeme). error (refusal (place_at text l.at))) same ∙ sym is'
 
+  -- tokens begin a list that has a tree up to one place
+  one_reach : (tokens : List Lexeme) (reach reach' : ℕ) → BeginsTree text tokens reach → BeginsTree text tokens reach' → reach ≡ reach'
+  one_reach tokens reach reach' begins begins' =
+      omega (arith, begins.greatest reach' begins'.after begins'.within begins'.begins, begins'.greatest reach begins.after begins.within begins.begins)
+
+  one_syntax : IsOne IsSyntaxDue
+  one_syntax a b (tokens, reach, read, none, begins, is) (tokens', reach', read', none', begins', is') =
+      let same : tokens ≡ tokens' = list_is_one text tokens tokens' read read' in
+      let there : BeginsTree text tokens reach' = subst (λ (l : List Lexeme). BeginsTree text l reach') (sym same) begins' in
+      is ∙ ap (λ (k : ℕ). error (Syntax (place_behind text tokens k))) (one_reach tokens reach reach' begins there)
+      ∙ ap (λ (l : List Lexeme). error (Syntax (place_behind text l reach'))) same ∙ sym is'
+
   one_unbuilt : IsOne IsUnbuiltDue
   one_unbuilt a b (none, is) (none', is') = is ∙ sym is'
 
@@ -115,7 +137,8 @@ module _ (text : List ℕ) where
   one_any : IsOne IsAny
   one_any =
       first_is_one _ _ one_long (first_is_one _ _ one_fault (first_is_one _ _ one_many
-      (first_is_one _ _ (one_such IsOut Out) (first_is_one _ _ (one_such IsDeep Deep) (first_is_one _ _ one_unbuilt one_reported)))))
+      (first_is_one _ _ (one_such IsOut Out) (first_is_one _ _ (one_such IsDeep Deep)
+      (first_is_one _ _ one_syntax (first_is_one _ _ one_unbuilt one_reported))))))
 
   -- what isn't so
   not_long : length text ≤ limit → (a : Answer) → IsLongDue a → ⊥
@@ -133,13 +156,21 @@ module _ (text : List ℕ) where
   not_such Such refusal tokens read none a (tokens', front, t, read', first, is) =
       none front first.after t (list_is_one text tokens tokens' read read' ∙ first.cut) first.such
 
+  not_treeless : (tokens : List Lexeme) → Tokens text tokens → HasTree text tokens → (a : Answer) → IsSyntaxDue a → ⊥
+  not_treeless tokens read tree a (tokens', reach, read', none, begins, is) =
+      let there : HasTree text tokens' = subst (HasTree text) (list_is_one text tokens tokens' read read') tree in
+      none there.0 there.1
+
   within : (tokens : List Lexeme) → HasTokens text tokens → (a : Answer) → IsInLimits a → IsAny a
   within tokens has a due = later (not_long has.short) (later (not_faulty tokens has.read) (later (not_many tokens has) due))
 
-  plainly : (tokens : List Lexeme) → HasPlainTokens text tokens → (a : Answer) → IsLast a → IsAny a
+  plainly : (tokens : List Lexeme) → HasPlainTokens text tokens → (a : Answer) → IsByTree a → IsAny a
   plainly tokens plain a due =
       within tokens plain.within a (later (not_such IsOut Out tokens plain.within.read plain.none_out)
       (later (not_such IsDeep Deep tokens plain.within.read plain.none_deep) due))
+
+  by_tree : (tokens : List Lexeme) → HasPlainTokens text tokens → HasTree text tokens → (a : Answer) → IsLast a → IsAny a
+  by_tree tokens plain tree a due = plainly tokens plain a (later (not_treeless tokens plain.within.read tree) due)
 
   refused : (refusal : Refusal) → IsRefused text refusal → IsAny (error refusal)
   unfolding fault
@@ -151,14 +182,15 @@ module _ (text : List ℕ) where
   refused _ (HasOut tokens front t has first) = within tokens has _ (here (tokens, front, t, has.read, first, refl))
   refused _ (HasDeep tokens front t has none first) =
       within tokens has _ (later (not_such IsOut Out tokens has.read none) (here (tokens, front, t, has.read, first, refl)))
-  refused _ (IsUnbuilt tokens plain none) = plainly tokens plain _ (here (none, refl))
+  refused _ (HasNoTree tokens reach plain none begins) = plainly tokens plain _ (here (tokens, reach, plain.within.read, none, begins, refl))
+  refused _ (IsUnbuilt tokens plain tree none) = by_tree tokens plain tree _ (here (none, refl))
 
   any_of : (due : List ℕ) (ended : Ended) → IsDue text due ended → IsAny (due, ended)
   unfolding error
   any_of due ended (IsError refusal why d e) =
       subst IsAny (sym (ap (λ (x : List ℕ). let a : Answer = (x, ended) in a) d ∙ ap (λ (x : Ended). let a : Answer = (error_text refusal, x) in a) e)) (refused refusal why)
   any_of due ended (IsReported c means reports) =
-      plainly means.tokens means.plain _ (later (λ a absent. absent.0 c (form_of c means)) (c, means, reports))
+      by_tree means.tokens means.plain means.tree _ (later (λ a absent. absent.0 c (form_of c means)) (c, means, reports))
 
 pub due_is_one : (text due other : List ℕ) (ended other_ended : Ended) → IsDue text due ended → IsDue text other other_ended
     → (due ≡ other) × (ended ≡ other_ended)

@@ -2,8 +2,11 @@
 use Rattle.std.proofs.Common.{◌≡◌, ℕ, List, [], ◌∷◌, Some, None, Ok, Err, map, refl, sym, ap, subst, ◌∙◌}
 use Rattle.std.specs.Result.{IsErrOf}
 use Rattle.sv_cli.specs.Due.{HasTokens, HasPlainTokens, HasForm, Means, IsRefused}
-use Rattle.sv_cli.specs.Due.IsRefused.{IsLong, HasChar, IsUnclosed, HasMany, HasOut, HasDeep, IsUnbuilt}
-use Rattle.sv_cli.specs.Unread.{GivesRefusal, IsUnread, from_lex, from_form}
+use Rattle.sv_cli.specs.Due.IsRefused.{IsLong, HasChar, IsUnclosed, HasMany, HasOut, HasDeep, HasNoTree, IsUnbuilt}
+use Rattle.sv_cli.specs.Trees.{HasTree, IsTreeless, BeginsTree, place_behind}
+use Rattle.sv_cli.specs.Unread.{GivesNoTree, GivesRefusal, IsUnread, from_lex, from_form}
+use Rattle.sv_cli.specs.declared.due.Unread.{Unread}
+use Rattle.sv_cli.specs.declared.due.Unread.TheVariants as unread
 use Rattle.sv_cli.specs.declared.refusal.Refusal.{Refusal}
 use Rattle.sv_cli.specs.declared.refusal.Refusal.TheVariants as refusal
 use Rattle.sv_first_form.specs.FirstForm.{StandsFor}
@@ -45,10 +48,28 @@ module _ (text : List ℕ) (tokens : Scanned) (answers : Answers text (Ok tokens
   has_refusal (refusal.Char place) never = absurd never
   has_refusal (refusal.Unclosed place) never = absurd never
   has_refusal (refusal.Many place) never = absurd never
+  has_refusal (refusal.Syntax place) never = absurd never
   has_refusal refusal.Unbuilt never = absurd never
 
   pub has_plain : GivesRefusal tokens None → HasPlainTokens text tokens.list
   has_plain none = record { within = has_tokens; none_out = none.0; none_deep = none.1 }
+
+  pub has_tree : HasTree tokens.source tokens.list → HasTree text tokens.list
+  has_tree tree = subst (λ (source : List ℕ). HasTree source tokens.list) answers.1 tree
+
+  pub no_tree : (why : Unread) → HasPlainTokens text tokens.list → GivesNoTree tokens why → IsUnread text why
+  no_tree (unread.Refused (refusal.Syntax place)) plain (none, reach, begins, there) =
+      subst (λ (p : Place). IsRefused text (refusal.Syntax p)) (sym (there ∙ ap (λ (source : List ℕ). place_behind source tokens.list reach) answers.1))
+      (HasNoTree tokens.list reach plain (subst (λ (source : List ℕ). IsTreeless source tokens.list) answers.1 none)
+      (subst (λ (source : List ℕ). BeginsTree source tokens.list reach) answers.1 begins))
+  no_tree (unread.Refused refusal.Long) plain never = absurd never
+  no_tree (unread.Refused (refusal.Char place)) plain never = absurd never
+  no_tree (unread.Refused (refusal.Unclosed place)) plain never = absurd never
+  no_tree (unread.Refused (refusal.Many place)) plain never = absurd never
+  no_tree (unread.Refused (refusal.Out place)) plain never = absurd never
+  no_tree (unread.Refused (refusal.Deep place)) plain never = absurd never
+  no_tree (unread.Refused refusal.Unbuilt) plain never = absurd never
+  no_tree unread.NoMemory plain free = tt
 
 -- the symbols of tokens are those of the lexemes that they show
 symbols : (slice : List Token) → map symbol slice ≡ map symbol_of (map shown slice)
@@ -59,7 +80,7 @@ module _ (slice : List Token) (list : List Lexeme) (shows : map shown slice ≡ 
   same_symbols : map symbol slice ≡ map symbol_of list
   same_symbols = symbols slice ∙ ap (λ (ls : List Lexeme). map symbol_of ls) shows
 
-  module _ (text : List ℕ) (plain : HasPlainTokens text list) where
+  module _ (text : List ℕ) (plain : HasPlainTokens text list) (tree : HasTree text list) where
     -- the text's own list is the only one
     stands_in : (c : Contract) → HasForm text c → StandsFor (map symbol slice) c
     stands_in c form = subst (λ (ss : List Symbol). StandsFor ss c)
@@ -69,10 +90,11 @@ module _ (slice : List Token) (list : List Lexeme) (shows : map shown slice ≡ 
     means c standing only = record {
       tokens = list;
       plain = plain;
+      tree = tree;
       meaning = subst (λ (ss : List Symbol). StandsFor ss c) same_symbols standing;
       only = λ other form. only other (stands_in other form);
     }
 
     pub no_form : (e : FormError) → (IsErrOf {T = Contract} (Err e) form.Unbuilt → (c : Contract) → StandsFor (map symbol slice) c → ⊥) → IsUnread text (from_form e)
-    no_form form.Unbuilt none = IsUnbuilt list plain (λ c has. none refl c (stands_in c has))
+    no_form form.Unbuilt none = IsUnbuilt list plain tree (λ c has. none refl c (stands_in c has))
     no_form form.NoMemory none = tt

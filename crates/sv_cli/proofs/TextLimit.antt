@@ -4,7 +4,7 @@ use Rattle.std.proofs.lemmas.List.{take_all, length-take}
 use Rattle.sv_cli.specs.Answered.{IsDueFrom, IsDueWithin}
 use Rattle.sv_cli.specs.Due.{IsDue, IsRefused}
 use Rattle.sv_cli.specs.Due.IsDue.{IsError, IsReported}
-use Rattle.sv_cli.specs.Due.IsRefused.{IsLong, HasChar, IsUnclosed, HasMany, HasOut, HasDeep, IsUnbuilt}
+use Rattle.sv_cli.specs.Due.IsRefused.{IsLong, HasChar, IsUnclosed, HasMany, HasOut, HasDeep, HasNoTree, IsUnbuilt}
 use Rattle.sv_cli.specs.Moved.{ReadsUpTo}
 use Rattle.sv_cli.specs.Refusals.{error_text}
 use Rattle.sv_cli.specs.declared.ended.Ended.{Ended}
@@ -24,7 +24,8 @@ short_or_long text _ (IsUnclosed at short first) = inr short
 short_or_long text _ (HasMany before after t short read size) = inr short
 short_or_long text _ (HasOut tokens before t has first) = inr has.short
 short_or_long text _ (HasDeep tokens before t has none first) = inr has.short
-short_or_long text _ (IsUnbuilt tokens plain none) = inr plain.within.short
+short_or_long text _ (HasNoTree tokens reach plain none begins) = inr plain.within.short
+short_or_long text _ (IsUnbuilt tokens plain tree none) = inr plain.within.short
 
 -- what is due for the text up to one byte over the limit is due for the text
 due_from_front : (most : ℕ) (text due : List ℕ) (ended : Ended) → most ≡ limit + 1 → IsDue (take most text) due ended → IsDue text due ended

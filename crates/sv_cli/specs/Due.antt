@@ -5,7 +5,8 @@ use Rattle.sv_cli.specs.Report.{Reports}
 use Rattle.sv_cli.specs.declared.ended.Ended.{Ended}
 use Rattle.sv_cli.specs.declared.ended.Ended.TheVariants.{Refused}
 use Rattle.sv_cli.specs.declared.refusal.Refusal.{Refusal}
-use Rattle.sv_cli.specs.declared.refusal.Refusal.TheVariants.{Long, Char, Unclosed, Many, Out, Deep, Unbuilt}
+use Rattle.sv_cli.specs.declared.refusal.Refusal.TheVariants.{Long, Char, Unclosed, Many, Out, Deep, Syntax, Unbuilt}
+use Rattle.sv_cli.specs.Trees.{HasTree, IsTreeless, BeginsTree, place_behind}
 use Rattle.sv_first_form.specs.FirstForm.{StandsFor}
 use Rattle.sv_first_form.specs.Symbols.{symbol_of}
 use Rattle.sv_first_form.specs.declared.contract.Contract.{Contract}
@@ -33,10 +34,11 @@ pub record HasForm (text : List ℕ) (c : Contract) : Type 0 where
   pub read : Tokens text tokens
   pub meaning : StandsFor (map symbol_of tokens) c
 
--- the text has plain tokens, and stands for this contract and for no other
+-- the text has plain tokens, they have a tree, and the text stands for this contract and for no other
 pub record Means (text : List ℕ) (c : Contract) : Type 0 where
   pub tokens : List Lexeme
   pub plain : HasPlainTokens text tokens
+  pub tree : HasTree text tokens
   pub meaning : StandsFor (map symbol_of tokens) c
   pub only : (other : Contract) → HasForm text other → other ≡ c
 
@@ -55,8 +57,11 @@ pub data IsRefused (text : List ℕ) : Refusal → Type 0 where
   -- a first token that is deep
   HasDeep : (tokens before : List Lexeme) (t : Lexeme) → HasTokens text tokens → HasNo IsOut tokens → IsFirst IsDeep tokens before t
       → IsRefused text (Deep (place_at text t.at))
+  -- no tree: the first token such that the tokens up to and including it begin no list that has one, or the end of the text where all begin one
+  HasNoTree : (tokens : List Lexeme) (reach : ℕ) → HasPlainTokens text tokens → IsTreeless text tokens → BeginsTree text tokens reach
+      → IsRefused text (Syntax (place_behind text tokens reach))
   -- no contract
-  IsUnbuilt : (tokens : List Lexeme) → HasPlainTokens text tokens → ((c : Contract) → HasForm text c → ⊥) → IsRefused text Unbuilt
+  IsUnbuilt : (tokens : List Lexeme) → HasPlainTokens text tokens → HasTree text tokens → ((c : Contract) → HasForm text c → ⊥) → IsRefused text Unbuilt
 
 -- what is due for a text, and how the program ends where it is written: the error line of its refusal, or the report of its contract
 pub data IsDue (text due : List ℕ) (ended : Ended) : Type 0 where

@@ -1,6 +1,7 @@
 pub mod Status
 pub mod Report
 pub mod Refusals
+pub mod Trees
 pub mod Due
 pub mod Moved
 pub mod Answered

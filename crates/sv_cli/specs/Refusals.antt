@@ -2,7 +2,7 @@
 use Rattle.std.specs.Prelude.{ℕ, List, ◌++◌, codes}
 use Rattle.std.specs.Fmt.{decimal}
 use Rattle.sv_cli.specs.declared.refusal.Refusal.{Refusal}
-use Rattle.sv_cli.specs.declared.refusal.Refusal.TheVariants.{Long, Char, Unclosed, Many, Out, Deep, Unbuilt}
+use Rattle.sv_cli.specs.declared.refusal.Refusal.TheVariants.{Long, Char, Unclosed, Many, Out, Deep, Syntax, Unbuilt}
 use Rattle.sv_text.specs.declared.place.Place.{Place}
 
 abbrev pub kind_text : Refusal → List ℕ
@@ -12,6 +12,7 @@ kind_text (Unclosed place) = codes "Unclosed"
 kind_text (Many place) = codes "Many"
 kind_text (Out place) = codes "Out"
 kind_text (Deep place) = codes "Deep"
+kind_text (Syntax place) = codes "Syntax"
 kind_text Unbuilt = codes "Unbuilt"
 
 -- the place of a text that is refused as a whole is its first byte
@@ -25,6 +26,7 @@ place_of (Unclosed place) = place
 place_of (Many place) = place
 place_of (Out place) = place
 place_of (Deep place) = place
+place_of (Syntax place) = place
 place_of Unbuilt = beginning
 
 -- the line: `error`, the place's line and column, and the kind

@@ -1,6 +1,7 @@
 -- Why a text isn't read as a contract. It serves the proof of `due`.
-use Rattle.std.specs.Prelude.{ℕ, List, Option, Some, None}
+use Rattle.std.specs.Prelude.{◌≡◌, ℕ, List, Option, Some, None}
 use Rattle.sv_cli.specs.Due.{IsRefused}
+use Rattle.sv_cli.specs.Trees.{IsTreeless, BeginsTree, place_behind}
 use Rattle.sv_cli.specs.declared.due.Unread.{Unread}
 use Rattle.sv_cli.specs.declared.due.Unread.TheVariants.{Refused, NoMemory}
 use Rattle.sv_cli.specs.declared.refusal.Refusal.{Refusal}
@@ -22,6 +23,14 @@ GivesRefusal tokens None = GivesFirst IsOut tokens None × GivesFirst IsDeep tok
 GivesRefusal tokens (Some (refusal.Out place)) = GivesFirst IsOut tokens (Some place)
 GivesRefusal tokens (Some (refusal.Deep place)) = GivesFirst IsOut tokens None × GivesFirst IsDeep tokens (Some place)
 GivesRefusal tokens (Some _) = ⊥
+
+-- the tokens have no tree, and the place is where no tree goes on
+abbrev pub GivesNoTree : Scanned → Unread → Type 0
+GivesNoTree tokens (Refused (refusal.Syntax place)) =
+    IsTreeless tokens.source tokens.list × (reach : ℕ) × BeginsTree tokens.source tokens.list reach
+    × (place ≡ place_behind tokens.source tokens.list reach)
+GivesNoTree tokens (Refused _) = ⊥
+GivesNoTree tokens NoMemory = Unit {0}
 
 -- what a fault of the tokens, and a fault of the form, is for the text
 abbrev pub from_lex : LexFault → Unread

@@ -1,8 +1,10 @@
 ghost use Rattle.std.specs.Prelude.{◌≡◌, IfOk, MatchResult};
 ghost use Rattle.sv_cli.specs.Due.{IsDue, Means};
 ghost use Rattle.sv_cli.specs.Report.{Reports};
-ghost use Rattle.sv_cli.specs.Unread.{GivesRefusal, IsUnread};
+ghost use Rattle.sv_cli.specs.Trees.{HasTree};
+ghost use Rattle.sv_cli.specs.Unread.{GivesNoTree, GivesRefusal, IsUnread};
 ghost use Rattle.sv_first_form.specs.FirstForm.{IsContract};
+ghost use Rattle.sv_lex.specs.Limits.{HasNo, IsDeep};
 
 use crate::ended::Ended;
 use crate::refusal::{Refusal, error_line};
@@ -12,7 +14,9 @@ use sv_first_form::parse::parse;
 use sv_first_form::{Contract, FormError};
 use sv_first_judge::judge::judge;
 use sv_lex::{LexFault, Tokens, deep, lex, out_word};
-use sv_text::NoMemory;
+use sv_parse_expr::ParseFault;
+use sv_parse_unit::parse_unit;
+use sv_text::{Names, NoMemory};
 use thiserror::Error;
 
 /// Why a text isn't read as a contract.
@@ -67,6 +71,25 @@ fn refusal_of(tokens: &Tokens<'_>) -> Option<Refusal>
     deep(tokens).map(Refusal::Deep)
 }
 
+/// Lets a value go.
+fn let_go<X: Drop>(_x: X) {}
+
+/// Whether tokens have a tree.
+fn check_tree(alloc: Global, tokens: &Tokens<'_>) -> Result<(), Unread>
+    requires { HasNo IsDeep tokens.now.list }
+    ensures { MatchResult result (λ _. HasTree tokens.now.source tokens.now.list) (GivesNoTree tokens.now) }
+{
+    let mut names = Names::new(alloc);
+    match parse_unit(alloc, tokens, &mut names) {
+        Ok(unit) => {
+            let_go(unit);
+            Ok(())
+        }
+        Err(ParseFault::Syntax(place)) => Err(Unread::Refused(Refusal::Syntax(place))),
+        Err(ParseFault::NoMemory) => Err(Unread::NoMemory),
+    }
+}
+
 /// The contract that a text stands for.
 fn read_contract<'a>(alloc: Global, text: &'a [u8]) -> Result<Contract<'a>, Unread>
     ensures { MatchResult result (Means text.now) (IsUnread text.now) }
@@ -75,6 +98,7 @@ fn read_contract<'a>(alloc: Global, text: &'a [u8]) -> Result<Contract<'a>, Unre
     if let Some(refusal) = refusal_of(&tokens) {
         return Err(Unread::Refused(refusal));
     }
+    check_tree(alloc, &tokens)?;
     let contract = parse(alloc, tokens.as_slice())?;
     Ok(contract)
 }

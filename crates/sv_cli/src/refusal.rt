@@ -20,6 +20,8 @@ pub enum Refusal {
     Out(Place),
     /// A token is nested too deeply, or too far behind the beginning of its statement; this is the place of the first.
     Deep(Place),
+    /// Its tokens have no tree; this is the place of the first token with which no tree goes on, or the end of the text.
+    Syntax(Place),
     /// It doesn't have the form that is read.
     Unbuilt,
 }
@@ -35,7 +37,8 @@ impl Refusal {
             | Refusal::Unclosed(place)
             | Refusal::Many(place)
             | Refusal::Out(place)
-            | Refusal::Deep(place) => *place,
+            | Refusal::Deep(place)
+            | Refusal::Syntax(place) => *place,
         }
     }
 }
@@ -54,6 +57,7 @@ impl fmt::Display for Refusal {
             Refusal::Many(_) => "Many",
             Refusal::Out(_) => "Out",
             Refusal::Deep(_) => "Deep",
+            Refusal::Syntax(_) => "Syntax",
             Refusal::Unbuilt => "Unbuilt",
         })
     }

@@ -53,7 +53,7 @@ fn each_answer_comes_with_its_bytes(rt: HostRuntime) -> Result<(), Fail> {
     assert_eq!(rt; ran.bytes.as_slice(), HELD);
     let ran = run(alloc, b"contract", &[], &[])?;
     assert_eq!(rt; ran.ended, Ended::Refused);
-    assert_eq!(rt; ran.bytes.as_slice(), b"error 1:1 Unbuilt\n".as_slice());
+    assert_eq!(rt; ran.bytes.as_slice(), b"error 1:9 Syntax\n".as_slice());
     let ran = run(alloc, TWO_COUNTERS, &[2], &[])?;
     assert_eq!(rt; ran.ended, Ended::ReadFault);
     assert_eq!(rt; ran.bytes.as_slice(), b"".as_slice());
@@ -66,7 +66,7 @@ fn each_answer_comes_with_its_bytes(rt: HostRuntime) -> Result<(), Fail> {
 const NESTED_65: &str = "(((((((((((((((((((((((((((((((((((((((((((((((((((((((((((((((((";
 
 /// Texts that are refused, with the line of each.
-const REFUSED: [(&str, &str); 9] = [
+const REFUSED: [(&str, &str); 12] = [
     ("", "error 1:1 Unbuilt\n"),
     ("contract C {\n  # }", "error 2:3 Char\n"),
     ("contract C {} /* }", "error 1:15 Unclosed\n"),
@@ -81,11 +81,15 @@ const REFUSED: [(&str, &str); 9] = [
         "import (((((((((((((((((((((((((((((((((((((((((((((((((((((((((((((((((#",
         "error 1:73 Char\n",
     ),
-    // an annotation line ends before the newline
+    // where no tree goes on: the end of the text, a token, and the end of an annotation line, which is before the newline
+    ("contract C {", "error 1:13 Syntax\n"),
+    ("contract C {\n  uint256 ;\n}", "error 2:11 Syntax\n"),
     (
         "/// @notice invariant a ==\ncontract C { uint256 a; }",
-        "error 1:1 Unbuilt\n",
+        "error 1:27 Syntax\n",
     ),
+    // a tree, and no contract of the form that is read
+    ("contract C { uint256 a = 1; }", "error 1:1 Unbuilt\n"),
     (
         "/// @notice precondition a == a\ncontract C { uint256 a; }",
         "error 1:1 Unbuilt\n",
@@ -109,7 +113,7 @@ fn limits_are_kept_to_the_byte_and_the_token(rt: HostRuntime) -> Result<(), Fail
         (b' ', 1_048_577, "error 1:1 Long\n"),
         (b' ', 1_048_576, "error 1:1 Unbuilt\n"),
         (b';', 200_001, "error 1:200001 Many\n"),
-        (b';', 200_000, "error 1:1 Unbuilt\n"),
+        (b';', 200_000, "error 1:1 Syntax\n"),
     ] {
         let text = vec![in alloc; byte; count]?;
         let ran = run(alloc, &text, &[], &[])?;
