@@ -1,6 +1,6 @@
+use Rattle.sv_parse_expr.proofs.Reading.{repeats_end, grows, grows_not, grown_at, reading}
 use Rattle.std.proofs.Common.{rules, arith, sym, ◌∙◌, ◌<◌, ◌≤◌, length}
 use Rattle.sv_ast.specs.SimpleTrees.{note_tree}
-use Rattle.sv_parse_expr.proofs.Reading.{repeats_end, grows, grows_not, grown_at}
 use Rattle.sv_notes.proofs.lines.note_lines.Goals as goal
 
 pub more-preserved : goal.more-preserved
@@ -19,3 +19,24 @@ returns-in_err-notes-clause-reads c =
 
 pub returns-clause-reads : goal.returns-clause-reads
 returns-clause-reads c = repeats_end c.more.invariant.repeats (sym c.sees.ensures ∙ c.more-test.false)
+
+pub more-init : goal.more-init
+more-init c = grind (arith, reading)
+
+pub note_line-requires : goal.note_line-requires
+note_line-requires c = grind (arith, reading)
+
+pub returns-in_err-notes-clause-more : goal.returns-in_err-notes-clause-more
+returns-in_err-notes-clause-more c = grind (arith, reading)
+
+pub returns-in_err-notes-clause-within : goal.returns-in_err-notes-clause-within
+returns-in_err-notes-clause-within c = grind (arith, reading)
+
+pub more-smaller : goal.more-smaller
+more-smaller c = grind (arith, reading)
+
+pub returns-clause-more : goal.returns-clause-more
+returns-clause-more c = grind (arith, reading)
+
+pub returns-clause-within : goal.returns-clause-within
+returns-clause-within c = grind (arith, reading)
