@@ -1,6 +1,6 @@
 -- Which equations are proved at a point, and the verdicts of a contract.
 use Rattle.std.proofs.Common.{◌≡◌, ◌+◌, ◌-◌, ◌<◌, ◌≤◌, ◌↔◌, ◌⊎◌, inl, inr, ⊎_elim, ℕ, Bool, true, false, IsTrue, MatchBool, List, [], ◌∷◌, ◌++◌, length, get_or, take, drop, map, refl, sym, ap, subst, ◌∙◌, arith}
-use Rattle.std.specs.Prelude.{All, Any}
+use Rattle.std.specs.Prelude.{All, Any, OnOk, Result, Ok, Err}
 use Rattle.std.specs.List.{HoldsAt, AllWithin}
 use Rattle.std.proofs.lemmas.List.{get_or-map, get_or_default, map_push, map_more, take_all, length-map, length-append, get_or_append_left, get_or-append_right, take-append-drop, drop_more, length-take-le}
 use Rattle.std.proofs.lemmas.List.Elements.{All-more}
@@ -56,6 +56,11 @@ module _ {X : Type 0} (P : X → Type 0) where
       (λ inside. inl (k, h.1, inside, sym (get_or_append_left xs ys h.1 k inside) ∙ h.3, h.4))
       (λ past. inr (k - length xs, h.1, omega (arith, h.2, length-append xs ys), sym (get_or-append_right xs ys (length xs) k h.1 refl past) ∙ h.3, h.4))
       (cases_lt k (length xs))
+
+-- what follows from two facts that hold where a result is Ok
+pub on_both : {E : Type 0} (A B : Type 0) {C : Type 0} (r : Result (Unit {0}) E) → OnOk r A → OnOk r B → (A → B → C) → OnOk r C
+on_both A B (Ok _) a b f = f a b
+on_both A B (Err _) a b f = tt
 
 -- one equation of a list, where a row has its form
 module _ (known : Known) (invariants : List Equation) (i : ℕ) (e : Equation) (row : Row) (inside : i < length invariants) (here : e ≡ get_or invariants i e) (form : form_of row ≡ equation_form known.values e) (so_far : All (IsProved known) (take i invariants)) where

@@ -1,10 +1,13 @@
 -- Serves the proof: the code's values of the variables at a point of a function, as forms, and the sums that it may add up.
-use Rattle.std.specs.Prelude.{◌==◌, ℕ, ◌<◌, ◌≤◌, ◌^◌, List, All, fold, length, if◌then◌else◌}
+use Rattle.std.specs.Prelude.{◌≡◌, ◌==◌, ℕ, ◌<◌, ◌≤◌, ◌^◌, List, All, fold, length, if◌then◌else◌}
 use Rattle.sv_first_form.specs.declared.contract.Equation.{Equation}
 use Rattle.sv_first_form.specs.declared.contract.Item.{Item}
 use Rattle.sv_first_form.specs.declared.contract.Item.TheVariants.{Variable, Number}
+use Rattle.sv_first_judge.specs.Judging.{item_form}
 use Rattle.sv_first_judge.specs.LinearForm.{LinearForm, number_form, variable_form}
-use Rattle.sv_first_judge.specs.Rows.{form_of}
+use Rattle.sv_first_judge.specs.Rows.{form_of, weight_of}
+use Rattle.sv_first_judge.specs.Weights.{most_after}
+use Rattle.sv_first_judge.specs.declared.row.Row.{Row}
 use Rattle.sv_first_judge.specs.declared.values.Assigned.{Assigned}
 use Rattle.sv_first_judge.specs.declared.values.Start.{Start}
 use Rattle.sv_first_judge.specs.declared.values.Start.TheVariants.{Zeros, Own}
@@ -22,9 +25,22 @@ forms_after forms assigned = fold (λ before a. λ v. if v == a.variable then fo
 abbrev pub values_of : Values → ℕ → LinearForm
 values_of values = forms_after (start_form values.start) values.assigned
 
+-- the form of an item
+abbrev pub form_in : Values → Item → LinearForm
+form_in values item = item_form (values_of values) item
+
 -- how many assignments were made
 abbrev pub count_of : Values → ℕ
 count_of values = length values.assigned
+
+-- the most that the row of a variable weighs
+abbrev pub most_of : Values → ℕ
+most_of values = most_after (count_of values)
+
+-- the row of a variable that was assigned
+pub record IsRowOf (values : Values) (variable : ℕ) (row : Row) : Type 0 where
+  pub form : form_of row ≡ values_of values variable
+  pub weight : weight_of row ≤ most_of values
 
 -- at most four items, with numbers of at most 18 digits
 abbrev pub IsSmall : Item → Type 0

@@ -5,6 +5,7 @@ pub mod History
 pub mod Value
 pub mod SafetyLaws
 pub mod Marks
+pub mod Steps
 pub mod Rows
 pub mod Weights
 pub mod Assignments

@@ -1,8 +1,8 @@
 -- Serves the proof: what the code knows at a point of a function, as the forms that the judge speaks of.
-use Rattle.std.specs.Prelude.{List, ◌++◌, ◌⊎◌, ◌≤◌, All, Any, fold, length, map}
+use Rattle.std.specs.Prelude.{◌≡◌, List, ◌+◌, ◌++◌, ◌⊎◌, ◌≤◌, All, Any, fold, length, map}
 use Rattle.sv_first_form.specs.declared.contract.Act.{Act}
 use Rattle.sv_first_form.specs.declared.contract.Act.TheVariants.{Assign, Require}
-use Rattle.sv_first_judge.specs.Assignments.{values_of, IsSum, HasSums}
+use Rattle.sv_first_judge.specs.Assignments.{values_of, count_of, IsSum, HasSums}
 use Rattle.sv_first_judge.specs.Judging.{Known, known_after}
 use Rattle.sv_first_judge.specs.LinearForm.{LinearForm, IsZero, variable_form}
 use Rattle.sv_first_judge.specs.Rows.{form_of, Agree}
@@ -15,6 +15,11 @@ known_of p = record { values = values_of p.values; hypotheses = map form_of (p.i
 abbrev pub IsSmallAct : Act → Type 0
 IsSmallAct (Assign v sum) = IsSum sum
 IsSmallAct (Require e) = HasSums e
+
+-- an act was judged: what is known after it, and at most one more assignment
+pub record Judges (before after : Point) (act : Act) : Type 0 where
+  pub known : known_of after ≡ known_after (known_of before) act
+  pub count : count_of after.values ≤ count_of before.values + 1
 
 -- the equation with this form is proved
 abbrev pub IsProvedForm : Known → LinearForm → Type 0

@@ -1,7 +1,7 @@
 -- Serves the proof: the code's rows as linear forms, and how much a row weighs.
 use Rattle.std.specs.Prelude.{◌≡◌, ◌==◌, ℕ, ℤ, pos, ◌+ℤ◌, ◌+◌, ◌≤◌, ◌⊎◌, List, [], ◌∷◌, if◌then◌else◌, All, sum_by}
 use Rattle.std.specs.Int.RustNames.{unsigned_abs}
-use Rattle.sv_first_judge.specs.LinearForm.{LinearForm, IsSame, negation}
+use Rattle.sv_first_judge.specs.LinearForm.{LinearForm, IsSame, negation, plus}
 use Rattle.sv_first_judge.specs.declared.row.Column.{Column}
 use Rattle.sv_first_judge.specs.declared.row.Row.{Row}
 
@@ -31,6 +31,11 @@ pub record AddsColumn (old new : Row) (column : Column) : Type 0 where
 pub record AddsNumber (old new : Row) (number : ℤ) : Type 0 where
   pub constant : new.constant ≡ old.constant +ℤ number
   pub columns : new.columns ≡ old.columns
+
+-- a row after a form was added, which weighs so much at most
+pub record AddsForm (old : Row) (f : LinearForm) (most : ℕ) (new : Row) : Type 0 where
+  pub form : form_of new ≡ plus (form_of old) f
+  pub weight : weight_of new ≤ weight_of old + most
 
 -- each column of the first row has the number that the second row has there, or its negation; or it has the number 0
 abbrev pub IsWithin : Row → Row → Type 0

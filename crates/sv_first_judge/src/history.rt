@@ -1,8 +1,9 @@
-ghost use Rattle.std.specs.Prelude.{◌≡◌, ◌+◌, ◌<◌, ◌≤◌, ◌^◌, [], ◌∷◌, ◌++◌, ◌↔◌, All, IfOk, IfSome, IsTrue, SomeIff, length, map, slice_get};
+ghost use Rattle.std.specs.Prelude.{◌≡◌, ◌+◌, ◌<◌, ◌≤◌, ◌^◌, [], ◌∷◌, ◌++◌, ◌↔◌, All, IfOk, IfSome, IsTrue, OnOk, SomeIff, length, map, slice_get};
 ghost use Rattle.std.specs.Option.{option_map};
 ghost use Rattle.sv_first_form.specs.FirstForm.{IsAct, IsContract, IsEquation, IsItem};
-ghost use Rattle.sv_first_judge.specs.History.{IsTrueIn, after_act, after_call, after_event, constructed, item_value, marks_of, range, run, run_of, sum_value};
-ghost use Rattle.sv_first_judge.specs.Marks.{event_of, history_of, state_of, values_of};
+ghost use Rattle.sv_first_judge.specs.History.{after_act, after_call, constructed, item_value, marks_of, range, run, run_of, sum_value};
+ghost use Rattle.sv_first_judge.specs.Marks.{history_of, state_of, values_of};
+ghost use Rattle.sv_first_judge.specs.Steps.{IsMet, IsStateOf, Leaves, Passes, PassesEvent};
 
 use crate::wide::Wide;
 use sqlite_items::Items;
@@ -62,8 +63,7 @@ fn value_of_sum(values: &[Wide], items: &[Item]) -> Option<Wide>
 /// Whether the sides are in range and equal.
 fn is_true(values: &[Wide], equation: &Equation) -> bool
     requires { IsEquation (length values.now) equation.now }
-    ensures { IsTrue result
-        ↔ ((sum_value (values_of values.now) equation.now.left < range) × IsTrueIn (values_of values.now) equation.now) }
+    ensures { IsTrue result ↔ IsMet (values_of values.now) equation.now }
 {
     let left = value_of_sum(values, equation.left.as_slice());
     let right = value_of_sum(values, equation.right.as_slice());
@@ -116,11 +116,9 @@ fn values_after_call(
     function: usize,
     gas: u64,
 ) -> Result<Option<Items<Wide>>, NoMemory>
-    requires form { IsContract contract.now }
-    requires len { length state.now.values ≡ length contract.now.variables }
-    ensures values { IfOk result
-        (λ end. option_map values_of end ≡ run_of (slice_get contract.now.functions function) gas (values_of state.now.values)) }
-    ensures len { IfOk result (λ end. IfSome end (λ after. length after ≡ length state.now.values)) }
+    requires { IsStateOf contract.now state.now }
+    ensures { IfOk result (Leaves state.now.values
+        (run_of (slice_get contract.now.functions function) gas (values_of state.now.values))) }
 {
     match contract.functions.get(function) {
         Some(f) => {
@@ -132,7 +130,8 @@ fn values_after_call(
 }
 
 fn add_mark(alloc: Global, state: &State, marks: &mut Vec<State>) -> Result<(), NoMemory>
-    ensures { IfOk result (λ _. map state_of marks.new.items ≡ map state_of marks.old.items ++ state_of state.now ∷ []) }
+    ensures { OnOk result
+        (map state_of marks.new.items ≡ map state_of marks.old.items ++ state_of state.now ∷ []) }
 {
     marks.push(state.copy(alloc)?)?;
     Ok(())
@@ -146,11 +145,8 @@ fn state_after_call(
     marks: &mut Vec<State>,
 ) -> Result<State, NoMemory>
     requires { IfSome end (λ values. length values ≡ length state.values) }
-    ensures state { IfOk result
-        (λ next. state_of next ≡ (after_call (state_of state) (option_map values_of end)).state) }
-    ensures marks { IfOk result (λ _. map state_of marks.new.items
-        ≡ map state_of marks.old.items ++ (after_call (state_of state) (option_map values_of end)).marks) }
-    ensures len { IfOk result (λ next. length next.values ≡ length state.values) }
+    ensures { IfOk result (λ next. Passes (after_call (state_of state) (option_map values_of end))
+        state next marks.old.items marks.new.items) }
 {
     if let Some(values) = end {
         state.values = values;
@@ -168,15 +164,9 @@ fn state_after_event(
     event: Event,
     marks: &mut Vec<State>,
 ) -> Result<State, NoMemory>
-    requires form { IsContract contract.now }
-    requires len { length state.values ≡ length contract.now.variables }
-    requires room { state.balance + 2 ^ 64 ≤ 2 ^ 128 }
-    ensures state { IfOk result
-        (λ next. state_of next ≡ (after_event contract.now (state_of state) (event_of event)).state) }
-    ensures marks { IfOk result (λ _. map state_of marks.new.items
-        ≡ map state_of marks.old.items ++ (after_event contract.now (state_of state) (event_of event)).marks) }
-    ensures len { IfOk result (λ next. length next.values ≡ length contract.now.variables) }
-    ensures balance { IfOk result (λ next. next.balance < state.balance + 2 ^ 64) }
+    requires { IsStateOf contract.now state × (state.balance + 2 ^ 64 ≤ 2 ^ 128) }
+    ensures { IfOk result
+        (λ next. PassesEvent contract.now event state next marks.old.items marks.new.items) }
 {
     match event {
         Event::Call { function, gas } => {

@@ -25,15 +25,16 @@ struct Point<'a> {
 }
 
 impl<'a> Point<'a> {
-    ghost use Rattle.std.specs.Prelude.{◌≡◌, ◌+◌, ◌<◌, ◌≤◌, ◌↔◌, All, Any, IfOk, IsTrue, OnOk, map};
+    ghost use Rattle.std.specs.Prelude.{◌≡◌, ◌<◌, ◌↔◌, All, Any, IfOk, IsTrue, OnOk, map};
     ghost use Rattle.sv_first_judge.specs.Assignments.{count_of, start_form, HasSums};
-    ghost use Rattle.sv_first_judge.specs.Judging.{known_after, IsVerdict};
-    ghost use Rattle.sv_first_judge.specs.Points.{known_of, IsProvedForm, IsSmallAct};
+    ghost use Rattle.sv_first_judge.specs.Judging.{IsVerdict};
+    ghost use Rattle.sv_first_judge.specs.Points.{known_of, IsProvedForm, IsSmallAct, Judges};
     ghost use Rattle.sv_first_judge.specs.Rows.{Agree, form_of};
 
     /// Before any act, where the variables are worth this and the rows of the invariants are zero.
     fn new(alloc: Global, start: Start, invariants: &'a [Row]) -> Point<'a>
-        ensures known { known_of result ≡ record { values = start_form start; hypotheses = map form_of invariants.now } }
+        ensures known { known_of result
+            ≡ record { values = start_form start; hypotheses = map form_of invariants.now } }
         ensures count { count_of result.values ≡ 0 }
     {
         Point {
@@ -46,8 +47,7 @@ impl<'a> Point<'a> {
     fn act(&mut self, alloc: Global, act: &Act) -> Result<(), NoMemory>
         requires small { IsSmallAct act.now }
         requires room { count_of self.old.values < 16 }
-        ensures known { OnOk result (known_of self.new ≡ known_after (known_of self.old) act.now) }
-        ensures count { OnOk result (count_of self.new.values ≤ count_of self.old.values + 1) }
+        ensures { OnOk result (Judges self.old self.new act.now) }
     {
         match act {
             Act::Assign(variable, sum) => {
@@ -69,7 +69,8 @@ impl<'a> Point<'a> {
     }
 
     fn has_hypothesis(&self, row: &Row) -> bool
-        ensures { IsTrue result ↔ Any (λ other. Agree (form_of row.now) other) (known_of self.now).hypotheses }
+        ensures { IsTrue result
+            ↔ Any (λ other. Agree (form_of row.now) other) (known_of self.now).hypotheses }
     {
         row.agrees_with_any(self.invariants) || row.agrees_with_any(self.required.as_slice())
     }
@@ -92,7 +93,8 @@ impl<'a> Point<'a> {
 /// The rows of the invariants at a function's entry.
 fn rows_at_entry(alloc: Global, invariants: &[Equation]) -> Result<Vec<Row>, NoMemory>
     requires { All HasSums invariants.now }
-    ensures { IfOk result (λ rows. map form_of rows.items ≡ map (equation_form variable_form) invariants.now) }
+    ensures { IfOk result
+        (λ rows. map form_of rows.items ≡ map (equation_form variable_form) invariants.now) }
 {
     let values = Values::new(alloc, Start::Own);
     let mut rows = Vec::new(alloc);
@@ -105,7 +107,8 @@ fn rows_at_entry(alloc: Global, invariants: &[Equation]) -> Result<Vec<Row>, NoM
 /// What is known after the acts of a function.
 fn after_acts<'a>(alloc: Global, hypotheses: &'a [Row], acts: &[Act]) -> Result<Point<'a>, NoMemory>
     requires { AreSmallActs acts.now }
-    ensures { IfOk result (λ point. known_of point ≡ known_after_acts (map form_of hypotheses.now) acts.now) }
+    ensures { IfOk result
+        (λ point. known_of point ≡ known_after_acts (map form_of hypotheses.now) acts.now) }
 {
     let mut point = Point::new(alloc, Start::Own, hypotheses);
     for act in acts {

@@ -174,7 +174,8 @@ impl Row {
     }
 
     fn has_opposite_columns(&self, other: &Row) -> bool
-        ensures { IsTrue result ↔ (CancelsWithin self.now other.now × CancelsWithin other.now self.now) }
+        ensures { IsTrue result
+            ↔ (CancelsWithin self.now other.now × CancelsWithin other.now self.now) }
     {
         self.cancels_within(other) && other.cancels_within(self)
     }

@@ -35,11 +35,10 @@ pub struct Values {
 
 impl Values {
     ghost use Rattle.std.specs.Prelude.{◌≡◌, ◌==◌, ◌+◌, ◌<◌, ◌≤◌, if◌then◌else◌, IfOk, MatchOption, OnOk};
-    ghost use Rattle.sv_first_judge.specs.LinearForm.{plus};
-    ghost use Rattle.sv_first_judge.specs.Rows.{form_of, weight_of};
+    ghost use Rattle.sv_first_judge.specs.Rows.{form_of, weight_of, AddsForm};
     ghost use Rattle.sv_first_judge.specs.Weights.{most_after, weight_limit};
-    ghost use Rattle.sv_first_judge.specs.Judging.{item_form, sum_form, equation_form};
-    ghost use Rattle.sv_first_judge.specs.Assignments.{start_form, values_of, count_of, IsSmall, IsSum, HasSums};
+    ghost use Rattle.sv_first_judge.specs.Judging.{sum_form, equation_form};
+    ghost use Rattle.sv_first_judge.specs.Assignments.{start_form, values_of, count_of, form_in, most_of, IsRowOf, IsSmall, IsSum, HasSums};
 
     /// Before any assignment.
     pub fn new(alloc: Global, start: Start) -> Values
@@ -68,8 +67,7 @@ impl Values {
     fn row_of(&self, variable: usize) -> Option<&Row>
         ensures { MatchOption result
             (values_of self.now variable ≡ start_form self.now.start variable)
-            (λ row. (form_of row.now ≡ values_of self.now variable)
-            × (weight_of row.now ≤ most_after (count_of self.now))) }
+            (λ row. IsRowOf self.now variable row.now) }
     {
         let mut newest = None;
         for a in self.assigned.as_slice() {
@@ -82,9 +80,8 @@ impl Values {
 
     fn plus_item(&self, sum: Row, item: Item) -> Result<Row, NoMemory>
         requires small { IsSmall item }
-        requires room { weight_of sum + most_after (count_of self.now) < weight_limit }
-        ensures form { IfOk result (λ row. form_of row ≡ plus (form_of sum) (item_form (values_of self.now) item)) }
-        ensures weight { IfOk result (λ row. weight_of row ≤ weight_of sum + most_after (count_of self.now)) }
+        requires room { weight_of sum + most_of self.now < weight_limit }
+        ensures { IfOk result (AddsForm sum (form_in self.now item) (most_of self.now)) }
     {
         match item {
             Item::Number(n) => Ok(sum.plus_number(n)),
@@ -97,8 +94,7 @@ impl Values {
 
     fn plus_start(&self, sum: Row, variable: usize) -> Result<Row, NoMemory>
         requires { weight_of sum + 1 < weight_limit }
-        ensures form { IfOk result (λ row. form_of row ≡ plus (form_of sum) (start_form self.now.start variable)) }
-        ensures weight { IfOk result (λ row. weight_of row ≤ weight_of sum + 1) }
+        ensures { IfOk result (AddsForm sum (start_form self.now.start variable) 1) }
     {
         match self.start {
             Start::Zeros => Ok(sum),
