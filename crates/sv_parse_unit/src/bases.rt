@@ -1,5 +1,4 @@
 //! The bases of a contract.
-#![tactic(auto, using(sv_parse_expr::proofs::Reading::reading))]
 
 ghost use Rattle.std.specs.Prelude.{◌≡◌, ◌<◌, ◌≤◌, length, map, IfOk};
 ghost use Rattle.sv_grammar.specs.Grammar.{opt, side, unit};

@@ -1,5 +1,4 @@
 //! Contracts and interfaces.
-#![tactic(auto, using(sv_parse_expr::proofs::Reading::reading))]
 
 ghost use Rattle.std.specs.Prelude.{◌≡◌, ◌<◌, ◌≤◌, length, map, IfOk};
 ghost use Rattle.sv_grammar.specs.Grammar.{name, opt, side, star, unit};

@@ -1,5 +1,4 @@
 //! The words between the parameters of a function and its body.
-#![tactic(auto, using(sv_parse_expr::proofs::Reading::reading))]
 
 ghost use Rattle.std.specs.Prelude.{◌≡◌, ◌<◌, ◌≤◌, [], ◌∷◌, true, drop, length, map, IfOk};
 ghost use Rattle.sv_grammar.specs.Grammar.{elem, name, opt, side, star};

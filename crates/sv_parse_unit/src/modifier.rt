@@ -1,5 +1,4 @@
 //! Modifiers.
-#![tactic(auto, using(sv_parse_expr::proofs::Reading::reading))]
 
 ghost use Rattle.std.specs.Prelude.{◌≡◌, ◌<◌, ◌≤◌, [], ◌∷◌, drop, length, map, IfOk};
 ghost use Rattle.sv_grammar.specs.Grammar.{elem, opt, side, star};

@@ -1,5 +1,4 @@
 //! Whole texts at a position.
-#![tactic(auto, using(sv_parse_expr::proofs::Reading::reading))]
 
 ghost use Rattle.std.specs.Prelude.{◌≡◌, ◌<◌, ◌≤◌, [], drop, length, map, IfOk};
 ghost use Rattle.sv_grammar.specs.Grammar.{both, elem, name, side, star, unit};

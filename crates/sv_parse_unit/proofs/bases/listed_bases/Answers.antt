@@ -4,7 +4,7 @@ use Rattle.sv_ast.specs.Syntax as s
 use Rattle.sv_ast.specs.Syntax.{listed}
 use Rattle.sv_ast.specs.ContractTrees.{base_tree}
 use Rattle.sv_parse_expr.specs.Reading.{Fails}
-use Rattle.sv_parse_expr.proofs.Reading.{grown_at, lists_end}
+use Rattle.sv_parse_expr.proofs.Reading.{grown_at, lists_end, reading}
 use Rattle.sv_parse_expr.proofs.ListsReading.{lists_first, lists_first_not, lists_grow, lists_grow_not}
 use Rattle.sv_parse_unit.proofs.bases.listed_bases.Goals as goal
 
@@ -36,3 +36,30 @@ returns-in_err-bases-2-clause-reads c =
 
 pub returns-clause-reads : goal.returns-clause-reads
 returns-clause-reads c = lists_end c.more.invariant.lists (sym c.sees.ensures ∙ c.more-test.false)
+
+pub read_base-requires : goal.read_base-requires
+read_base-requires c = grind (arith, reading)
+
+pub returns-in_err-bases-clause-more : goal.returns-in_err-bases-clause-more
+returns-in_err-bases-clause-more c = grind (arith, reading)
+
+pub returns-in_err-bases-clause-within : goal.returns-in_err-bases-clause-within
+returns-in_err-bases-clause-within c = grind (arith, reading)
+
+pub next_base-requires : goal.next_base-requires
+next_base-requires c = grind (arith, reading)
+
+pub returns-in_err-bases-2-clause-more : goal.returns-in_err-bases-2-clause-more
+returns-in_err-bases-2-clause-more c = grind (arith, reading)
+
+pub returns-in_err-bases-2-clause-within : goal.returns-in_err-bases-2-clause-within
+returns-in_err-bases-2-clause-within c = grind (arith, reading)
+
+pub more-smaller : goal.more-smaller
+more-smaller c = grind (arith, reading)
+
+pub returns-clause-more : goal.returns-clause-more
+returns-clause-more c = grind (arith, reading)
+
+pub returns-clause-within : goal.returns-clause-within
+returns-clause-within c = grind (arith, reading)

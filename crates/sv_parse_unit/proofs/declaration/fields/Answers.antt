@@ -3,7 +3,7 @@ use Rattle.sv_grammar.specs.Grammar.{side}
 use Rattle.sv_ast.specs.Syntax as s
 use Rattle.sv_ast.specs.DeclarationTrees.{field_tree}
 use Rattle.sv_parse_expr.specs.Reading.{Fails}
-use Rattle.sv_parse_expr.proofs.Reading.{grown_at}
+use Rattle.sv_parse_expr.proofs.Reading.{grown_at, reading}
 use Rattle.sv_parse_unit.proofs.Declarations.{several_first, several_first_not, several_grow, several_grow_not, several_end}
 use Rattle.sv_parse_unit.proofs.declaration.fields.Goals as goal
 
@@ -35,3 +35,30 @@ returns-in_err-items-2-clause-reads c =
 
 pub returns-clause-reads : goal.returns-clause-reads
 returns-clause-reads c = several_end c.more.invariant.several (sym c.sees_type.ensures ∙ c.more-test.false)
+
+pub field-requires : goal.field-requires
+field-requires c = grind (arith, reading)
+
+pub returns-in_err-items-clause-more : goal.returns-in_err-items-clause-more
+returns-in_err-items-clause-more c = grind (arith, reading)
+
+pub returns-in_err-items-clause-within : goal.returns-in_err-items-clause-within
+returns-in_err-items-clause-within c = grind (arith, reading)
+
+pub field-requires-in-more : goal.field-requires-in-more
+field-requires-in-more c = grind (arith, reading)
+
+pub returns-in_err-items-2-clause-more : goal.returns-in_err-items-2-clause-more
+returns-in_err-items-2-clause-more c = grind (arith, reading)
+
+pub returns-in_err-items-2-clause-within : goal.returns-in_err-items-2-clause-within
+returns-in_err-items-2-clause-within c = grind (arith, reading)
+
+pub more-smaller : goal.more-smaller
+more-smaller c = grind (arith, reading)
+
+pub returns-clause-more : goal.returns-clause-more
+returns-clause-more c = grind (arith, reading)
+
+pub returns-clause-within : goal.returns-clause-within
+returns-clause-within c = grind (arith, reading)

@@ -2,7 +2,7 @@ use Rattle.std.proofs.Common.{rules, arith, sym, ◌∙◌, ◌<◌, ◌≤◌, 
 use Rattle.sv_ast.specs.Syntax.{id, listed}
 use Rattle.sv_grammar.specs.Grammar.{name}
 use Rattle.sv_parse_expr.specs.Reading.{Fails}
-use Rattle.sv_parse_expr.proofs.Reading.{grown_at, lists_end}
+use Rattle.sv_parse_expr.proofs.Reading.{grown_at, lists_end, reading}
 use Rattle.sv_parse_expr.proofs.ListsReading.{lists_first, lists_first_not, lists_grow, lists_grow_not}
 use Rattle.sv_parse_unit.proofs.over.names.Goals as goal
 
@@ -34,3 +34,30 @@ returns-in_err-items-2-clause-reads c =
 
 pub returns-clause-reads : goal.returns-clause-reads
 returns-clause-reads c = lists_end c.more.invariant.lists (sym c.sees.ensures ∙ c.more-test.false)
+
+pub id-requires : goal.id-requires
+id-requires c = grind (arith, reading)
+
+pub returns-in_err-items-clause-more : goal.returns-in_err-items-clause-more
+returns-in_err-items-clause-more c = grind (arith, reading)
+
+pub returns-in_err-items-clause-within : goal.returns-in_err-items-clause-within
+returns-in_err-items-clause-within c = grind (arith, reading)
+
+pub next_name-requires : goal.next_name-requires
+next_name-requires c = grind (arith, reading)
+
+pub returns-in_err-items-2-clause-more : goal.returns-in_err-items-2-clause-more
+returns-in_err-items-2-clause-more c = grind (arith, reading)
+
+pub returns-in_err-items-2-clause-within : goal.returns-in_err-items-2-clause-within
+returns-in_err-items-2-clause-within c = grind (arith, reading)
+
+pub more-smaller : goal.more-smaller
+more-smaller c = grind (arith, reading)
+
+pub returns-clause-more : goal.returns-clause-more
+returns-clause-more c = grind (arith, reading)
+
+pub returns-clause-within : goal.returns-clause-within
+returns-clause-within c = grind (arith, reading)

@@ -1,4 +1,5 @@
-use Rattle.std.proofs.Common.{[], length}
+use Rattle.sv_parse_expr.proofs.Reading.{reading}
+use Rattle.std.proofs.Common.{[], length, arith}
 use Rattle.sv_grammar.specs.Grammar.{both, side}
 use Rattle.sv_ast.specs.Syntax as s
 use Rattle.sv_ast.specs.ContractTrees.{function_tree, ctor_tree}
@@ -16,3 +17,9 @@ returns-clause-more c = c.choose.ensures.more c.args.at c.read_function.ensures.
 
 pub returns-clause-within : goal.returns-clause-within
 returns-clause-within c = c.choose.ensures.within (length c.args.input.now.tokens) c.read_function.ensures.within c.no_function.ensures.within
+
+pub read_function-requires : goal.read_function-requires
+read_function-requires c = grind (arith, reading)
+
+pub no_function-requires : goal.no_function-requires
+no_function-requires c = grind (arith, reading)

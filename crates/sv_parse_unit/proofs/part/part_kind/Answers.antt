@@ -1,4 +1,5 @@
-use Rattle.std.proofs.Common.{rules, [], length}
+use Rattle.sv_parse_expr.proofs.Reading.{reading}
+use Rattle.std.proofs.Common.{rules, [], length, arith}
 use Rattle.sv_grammar.specs.Grammar.{both, side}
 use Rattle.sv_ast.specs.Syntax as s
 use Rattle.sv_ast.specs.ContractTrees.{variable_tree, function_tree, ctor_tree}
@@ -22,3 +23,15 @@ returns-clause-more c = c.in_ok-read.ensures.more c.args.at c.read_variable.ensu
 
 pub returns-clause-within : goal.returns-clause-within
 returns-clause-within c = c.in_ok-read.ensures.within (length c.args.input.now.tokens) c.read_variable.ensures.within c.no_variable.ensures.within
+
+pub read_variable-requires : goal.read_variable-requires
+read_variable-requires c = grind (arith, reading)
+
+pub no_variable-requires : goal.no_variable-requires
+no_variable-requires c = grind (arith, reading)
+
+pub returns-in_err-read-clause-more : goal.returns-in_err-read-clause-more
+returns-in_err-read-clause-more c = grind (arith, reading)
+
+pub returns-in_err-read-clause-within : goal.returns-in_err-read-clause-within
+returns-in_err-read-clause-within c = grind (arith, reading)

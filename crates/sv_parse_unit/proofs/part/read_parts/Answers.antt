@@ -1,6 +1,6 @@
 use Rattle.std.proofs.Common.{rules, arith, sym, ◌∙◌, ◌<◌, ◌≤◌, length}
 use Rattle.sv_ast.specs.ContractTrees.{part_tree}
-use Rattle.sv_parse_expr.proofs.Reading.{repeats_end, grows, grows_not, grown_at}
+use Rattle.sv_parse_expr.proofs.Reading.{repeats_end, grows, grows_not, grown_at, reading}
 use Rattle.sv_parse_unit.proofs.part.read_parts.Goals as goal
 
 pub more-preserved : goal.more-preserved
@@ -19,3 +19,24 @@ returns-in_err-parts-clause-reads c =
 
 pub returns-clause-reads : goal.returns-clause-reads
 returns-clause-reads c = repeats_end c.more.invariant.repeats (sym c.sees_part.ensures ∙ c.more-test.false)
+
+pub more-init : goal.more-init
+more-init c = grind (arith, reading)
+
+pub read_part-requires : goal.read_part-requires
+read_part-requires c = grind (arith, reading)
+
+pub returns-in_err-parts-clause-more : goal.returns-in_err-parts-clause-more
+returns-in_err-parts-clause-more c = grind (arith, reading)
+
+pub returns-in_err-parts-clause-within : goal.returns-in_err-parts-clause-within
+returns-in_err-parts-clause-within c = grind (arith, reading)
+
+pub more-smaller : goal.more-smaller
+more-smaller c = grind (arith, reading)
+
+pub returns-clause-more : goal.returns-clause-more
+returns-clause-more c = grind (arith, reading)
+
+pub returns-clause-within : goal.returns-clause-within
+returns-clause-within c = grind (arith, reading)

@@ -1,6 +1,6 @@
-use Rattle.std.proofs.Common.{rules, [], ◌∷◌, refl, sym, ◌∙◌}
+use Rattle.std.proofs.Common.{rules, [], ◌∷◌, refl, sym, ◌∙◌, arith}
 use Rattle.sv_ast.specs.Terminals as k
-use Rattle.sv_parse_expr.proofs.Reading.{class_at}
+use Rattle.sv_parse_expr.proofs.Reading.{class_at, reading}
 use Rattle.sv_parse_expr.proofs.Alternatives.{in_neither, gives_begins, gives_nth, fails_nth, fails_last}
 use Rattle.sv_parse_unit.proofs.Units.{told_forms}
 use Rattle.sv_parse_unit.proofs.part.read_told.Goals as goal
@@ -44,3 +44,93 @@ returns-in_err-error-clause-reads c =
     let no_other = in_neither next (k.note ∷ k.fallback ∷ k.receive ∷ []) (k.modifier ∷ k.struct ∷ k.enum ∷ k.event ∷ []) (sym c.sees_special.ensures ∙ c.if-sees_special.false) (in_neither next (k.modifier ∷ []) (k.struct ∷ k.enum ∷ k.event ∷ []) (sym c.sees.ensures ∙ c.if-sees.false) (in_neither next (k.struct ∷ []) (k.enum ∷ k.event ∷ []) (sym c.sees-else-sees.ensures ∙ c.if-sees-2.false) (in_neither next (k.enum ∷ []) (k.event ∷ []) (sym c.sees-else-sees-2.ensures ∙ c.if-sees-3.false) (sym c.sees-else-sees-3.ensures ∙ c.if-sees-4.false)))) in
     let failed = fails_last told_forms no_other c.in_err-error.ensures.reads in
     search rules
+
+pub read_special-requires : goal.read_special-requires
+read_special-requires c = grind (arith, reading)
+
+pub returns-in_err-special-clause-more : goal.returns-in_err-special-clause-more
+returns-in_err-special-clause-more c = grind (arith, reading)
+
+pub returns-in_err-special-clause-within : goal.returns-in_err-special-clause-within
+returns-in_err-special-clause-within c = grind (arith, reading)
+
+pub read_modifier-requires : goal.read_modifier-requires
+read_modifier-requires c = grind (arith, reading)
+
+pub returns-in_err-modifier-clause-more : goal.returns-in_err-modifier-clause-more
+returns-in_err-modifier-clause-more c = grind (arith, reading)
+
+pub returns-in_err-modifier-clause-within : goal.returns-in_err-modifier-clause-within
+returns-in_err-modifier-clause-within c = grind (arith, reading)
+
+pub read_struct-requires : goal.read_struct-requires
+read_struct-requires c = grind (arith, reading)
+
+pub returns-in_err-of-clause-more : goal.returns-in_err-of-clause-more
+returns-in_err-of-clause-more c = grind (arith, reading)
+
+pub returns-in_err-of-clause-within : goal.returns-in_err-of-clause-within
+returns-in_err-of-clause-within c = grind (arith, reading)
+
+pub read_enum-requires : goal.read_enum-requires
+read_enum-requires c = grind (arith, reading)
+
+pub returns-in_err-of-2-clause-more : goal.returns-in_err-of-2-clause-more
+returns-in_err-of-2-clause-more c = grind (arith, reading)
+
+pub returns-in_err-of-2-clause-within : goal.returns-in_err-of-2-clause-within
+returns-in_err-of-2-clause-within c = grind (arith, reading)
+
+pub read_event-requires : goal.read_event-requires
+read_event-requires c = grind (arith, reading)
+
+pub returns-in_err-event-clause-more : goal.returns-in_err-event-clause-more
+returns-in_err-event-clause-more c = grind (arith, reading)
+
+pub returns-in_err-event-clause-within : goal.returns-in_err-event-clause-within
+returns-in_err-event-clause-within c = grind (arith, reading)
+
+pub read_error-requires : goal.read_error-requires
+read_error-requires c = grind (arith, reading)
+
+pub returns-in_err-error-clause-more : goal.returns-in_err-error-clause-more
+returns-in_err-error-clause-more c = grind (arith, reading)
+
+pub returns-in_err-error-clause-within : goal.returns-in_err-error-clause-within
+returns-in_err-error-clause-within c = grind (arith, reading)
+
+pub returns-in_ok-special-clause-more : goal.returns-in_ok-special-clause-more
+returns-in_ok-special-clause-more c = grind (arith, reading)
+
+pub returns-in_ok-special-clause-within : goal.returns-in_ok-special-clause-within
+returns-in_ok-special-clause-within c = grind (arith, reading)
+
+pub returns-in_ok-modifier-clause-more : goal.returns-in_ok-modifier-clause-more
+returns-in_ok-modifier-clause-more c = grind (arith, reading)
+
+pub returns-in_ok-modifier-clause-within : goal.returns-in_ok-modifier-clause-within
+returns-in_ok-modifier-clause-within c = grind (arith, reading)
+
+pub returns-in_ok-of-clause-more : goal.returns-in_ok-of-clause-more
+returns-in_ok-of-clause-more c = grind (arith, reading)
+
+pub returns-in_ok-of-clause-within : goal.returns-in_ok-of-clause-within
+returns-in_ok-of-clause-within c = grind (arith, reading)
+
+pub returns-in_ok-of-2-clause-more : goal.returns-in_ok-of-2-clause-more
+returns-in_ok-of-2-clause-more c = grind (arith, reading)
+
+pub returns-in_ok-of-2-clause-within : goal.returns-in_ok-of-2-clause-within
+returns-in_ok-of-2-clause-within c = grind (arith, reading)
+
+pub returns-in_ok-event-clause-more : goal.returns-in_ok-event-clause-more
+returns-in_ok-event-clause-more c = grind (arith, reading)
+
+pub returns-in_ok-event-clause-within : goal.returns-in_ok-event-clause-within
+returns-in_ok-event-clause-within c = grind (arith, reading)
+
+pub returns-in_ok-error-clause-more : goal.returns-in_ok-error-clause-more
+returns-in_ok-error-clause-more c = grind (arith, reading)
+
+pub returns-in_ok-error-clause-within : goal.returns-in_ok-error-clause-within
+returns-in_ok-error-clause-within c = grind (arith, reading)

@@ -1,4 +1,5 @@
-use Rattle.std.proofs.Common.{[], length}
+use Rattle.sv_parse_expr.proofs.Reading.{reading}
+use Rattle.std.proofs.Common.{[], length, arith}
 use Rattle.sv_grammar.specs.Grammar.{side}
 use Rattle.sv_ast.specs.Syntax as s
 use Rattle.sv_ast.specs.DeclarationTrees.{error_tree}
@@ -15,3 +16,9 @@ returns-clause-more c = c.choose.ensures.more c.args.at c.read_error.ensures.mor
 
 pub returns-clause-within : goal.returns-clause-within
 returns-clause-within c = c.choose.ensures.within (length c.args.input.now.tokens) c.read_error.ensures.within c.read_file_const.ensures.within
+
+pub read_error-requires : goal.read_error-requires
+read_error-requires c = grind (arith, reading)
+
+pub read_file_const-requires : goal.read_file_const-requires
+read_file_const-requires c = grind (arith, reading)

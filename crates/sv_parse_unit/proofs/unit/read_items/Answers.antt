@@ -1,6 +1,6 @@
 use Rattle.std.proofs.Common.{rules, arith, sym, ◌∙◌, ◌<◌, ◌≤◌, length}
 use Rattle.sv_ast.specs.UnitTrees.{unit_item_tree}
-use Rattle.sv_parse_expr.proofs.Reading.{class_at, repeats_end, grows, grows_not, grown_at}
+use Rattle.sv_parse_expr.proofs.Reading.{class_at, repeats_end, grows, grows_not, grown_at, reading}
 use Rattle.sv_parse_unit.proofs.Units.{begins_item, begins_no_item}
 use Rattle.sv_parse_unit.proofs.unit.read_items.Goals as goal
 
@@ -20,3 +20,24 @@ returns-in_err-items-clause-reads c =
 
 pub returns-clause-reads : goal.returns-clause-reads
 returns-clause-reads c = repeats_end c.more.invariant.repeats (begins_no_item (class_at c.args.input.now c.more.now) (sym c.sees_item.ensures ∙ c.more-test.false))
+
+pub more-init : goal.more-init
+more-init c = grind (arith, reading)
+
+pub read_item-requires : goal.read_item-requires
+read_item-requires c = grind (arith, reading)
+
+pub returns-in_err-items-clause-more : goal.returns-in_err-items-clause-more
+returns-in_err-items-clause-more c = grind (arith, reading)
+
+pub returns-in_err-items-clause-within : goal.returns-in_err-items-clause-within
+returns-in_err-items-clause-within c = grind (arith, reading)
+
+pub more-smaller : goal.more-smaller
+more-smaller c = grind (arith, reading)
+
+pub returns-clause-more : goal.returns-clause-more
+returns-clause-more c = grind (arith, reading)
+
+pub returns-clause-within : goal.returns-clause-within
+returns-clause-within c = grind (arith, reading)

@@ -1,6 +1,6 @@
 use Rattle.std.proofs.Common.{rules, arith, sym, ◌∙◌, ◌<◌, ◌≤◌, length}
 use Rattle.sv_ast.specs.ContractTrees.{variable_word_tree}
-use Rattle.sv_parse_expr.proofs.Reading.{repeats_end, grows, grows_not, grown_at}
+use Rattle.sv_parse_expr.proofs.Reading.{repeats_end, grows, grows_not, grown_at, reading}
 use Rattle.sv_parse_unit.proofs.variable.variable_words.Goals as goal
 
 pub more-preserved : goal.more-preserved
@@ -19,3 +19,24 @@ returns-in_err-words-clause-reads c =
 
 pub returns-clause-reads : goal.returns-clause-reads
 returns-clause-reads c = repeats_end c.more.invariant.repeats (sym c.sees_variable_word.ensures ∙ c.more-test.false)
+
+pub more-init : goal.more-init
+more-init c = grind (arith, reading)
+
+pub variable_word-requires : goal.variable_word-requires
+variable_word-requires c = grind (arith, reading)
+
+pub returns-in_err-words-clause-more : goal.returns-in_err-words-clause-more
+returns-in_err-words-clause-more c = grind (arith, reading)
+
+pub returns-in_err-words-clause-within : goal.returns-in_err-words-clause-within
+returns-in_err-words-clause-within c = grind (arith, reading)
+
+pub more-smaller : goal.more-smaller
+more-smaller c = grind (arith, reading)
+
+pub returns-clause-more : goal.returns-clause-more
+returns-clause-more c = grind (arith, reading)
+
+pub returns-clause-within : goal.returns-clause-within
+returns-clause-within c = grind (arith, reading)
