@@ -7,4 +7,7 @@ pub mod FactRules
 pub mod FactRuleTest
 pub mod ModelMaking
 pub mod Gathered
+pub mod BankLists
+pub mod NodeTrees
+pub mod BankGrowth
 pub mod Examples

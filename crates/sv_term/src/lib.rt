@@ -4,10 +4,14 @@
 //! Stands on: std alone.
 #![tactic(auto)]
 
+mod args;
 mod book;
 pub mod laws;
+mod node;
 
+pub use args::Args;
 pub use book::RuleBook;
+pub use node::{Node, Range, SortId, SortNode, TermId};
 
 #[cfg(test)]
 mod tests {
