@@ -10,4 +10,6 @@ pub mod Gathered
 pub mod BankLists
 pub mod NodeTrees
 pub mod BankGrowth
+pub mod NodeEquality
+pub mod Keyed
 pub mod Examples

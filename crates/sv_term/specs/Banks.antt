@@ -289,6 +289,10 @@ pub record IsKind (b : Nodes) (k : SortId) (s : Sort) : Type 0 where
   pub within : IsSort b k
   pub is : sort b k ≡ s
 
+-- x stands somewhere in the list
+abbrev pub StandsIn : {A : Type 0} → List A → A → Type 0
+StandsIn xs x = (j : ℕ) × (slice_get xs j ≡ Some x)
+
 -- ---- what every bank meets
 
 abbrev pub AreBelow : ℕ → List TermId → Type 0

@@ -5,11 +5,13 @@
 #![tactic(auto)]
 
 mod args;
+mod bank;
 mod book;
 pub mod laws;
 mod node;
 
 pub use args::Args;
+pub use bank::Bank;
 pub use book::RuleBook;
 pub use node::{Node, Range, SortId, SortNode, TermId};
 
