@@ -12,4 +12,6 @@ pub mod NodeTrees
 pub mod BankGrowth
 pub mod NodeEquality
 pub mod Keyed
+pub mod Wide
+pub mod Distinct
 pub mod Examples

@@ -9,6 +9,7 @@ mod bank;
 mod book;
 pub mod laws;
 mod node;
+mod sorting;
 
 pub use args::Args;
 pub use bank::Bank;
