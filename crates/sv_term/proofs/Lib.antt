@@ -14,4 +14,5 @@ pub mod NodeEquality
 pub mod Keyed
 pub mod Wide
 pub mod Distinct
+pub mod SortNumbers
 pub mod Examples
