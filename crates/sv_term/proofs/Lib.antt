@@ -15,4 +15,6 @@ pub mod Keyed
 pub mod Wide
 pub mod Distinct
 pub mod SortNumbers
-pub mod Examples
+pub mod KindTests
+pub mod BankFits
+pub mod WorkedValues

@@ -1,8 +1,11 @@
-ghost use Rattle.std.specs.Prelude.{◌≡◌, ◌∷◌, ◌++◌, [], length, slice_get, Some, IfOk, IfSome, OnOk, OnErr, IsOk, MatchOption};
+ghost use Rattle.std.specs.Prelude.{◌≡◌, ◌↔◌, ◌∷◌, ◌++◌, [], length, slice_get, Some, IfOk, IfSome, OnOk, OnErr, IsOk, MatchOption, true};
 ghost use Rattle.sv_term.specs.declared.node.TermId.{TermId};
 ghost use Rattle.sv_term.specs.declared.node.SortId.{SortId};
-ghost use Rattle.sv_term.specs.Terms.{sort_of};
-ghost use Rattle.sv_term.specs.Banks.{Nodes, row_of, term, sort, tree, sort_tree, IsTerm, IsSort, Fits, SortFits, Keeps, Stands, IsKind, IsPlaced, IsPlacedSort, StandsIn};
+ghost use Rattle.sv_term.specs.declared.node.Node.{Node};
+ghost use Rattle.sv_term.specs.Terms.{sort_of, fits};
+ghost use Rattle.sv_term.specs.Banks.{Nodes, row_of, term, sort, tree, sort_tree, IsTerm, IsSort, Fits, SortFits, Keeps, Stands, IsKind, IsPlaced, IsPlacedSort, IsNamed, AllDiffer, StandsIn};
+
+mod fitting;
 
 use crate::node::{Node, SortId, SortNode, TermId};
 use indexmap::{IndexMap, IndexSet};
@@ -159,5 +162,17 @@ impl Bank {
         }
         let sort = self.sort_for(&node)?;
         Ok(self.push(node, sort)?)
+    }
+
+    /// What holds of every bank: each term fits, a node may be added exactly where its sorts and arguments are there and its tree fits,
+    /// and no two sorts and no two nodes are equal. It does nothing.
+    pub fn is_sound(&self)
+        ensures terms { (k : TermId) → IsTerm self.now k → fits (term self.now k) ≡ true }
+        ensures nodes { (x : Node) → Fits self.now x ↔ (IsNamed self.now x × (fits (tree self.now x) ≡ true)) }
+        ensures sorts_differ { AllDiffer self.now.sorts }
+        ensures nodes_differ { AllDiffer self.now.nodes }
+        ensures one_number { (j k : SortId) → IsSort self.now j → IsSort self.now k → sort self.now j ≡ sort self.now k → j ≡ k }
+    {
+        let _ = &self.nodes;
     }
 }
