@@ -198,8 +198,7 @@ module _ (b : Nodes) where
       (as_array x w.terms.0 p.0, as_number y w.terms.1.0 p.1)
   fits_back (n.Sto x y v) w e =
       let p = both_true (is_array (sort_of (term b x)) && is_num (sort_of (term b y))) (matches (element (sort_of (term b x))) (sort_of (term b v))) (asked t.StoNode (args_by (term b) (x ∷ y ∷ v ∷ [])) e) in
-      let q = both_true (is_array (sort_of (term b x))) (is_num (sort_of (term b y))) p.0 in
-      (
+      let q = both_true (is_array (sort_of (term b x))) (is_num (sort_of (term b y))) p.0 in (
         as_array x w.terms.0 q.0,
         as_number y w.terms.1.0 q.1,
         record { within = w.terms.1.1.0; kin = ap (λ z. wide (element z)) (wide_of_array (sort_of (term b x)) q.0) ∙ same_wide (element (sort_of (term b x))) (sort_of (term b v)) p.1 },
@@ -209,8 +208,7 @@ module _ (b : Nodes) where
       record { sort_within = w.sorts.0; array = (both_true (is_array (sort b k)) (is_sort (sort b k)) p.0).0; within = w.terms.0; kin = same_wide (element (sort b k)) (sort_of (term b v)) p.1 }
   fits_back (n.Mix k x y) w e =
       let p = both_true (is_num (sort_of (term b k)) && is_array (sort_of (term b x))) (same_sort (sort_of (term b x)) (sort_of (term b y))) (asked t.MixNode (args_by (term b) (k ∷ x ∷ y ∷ [])) e) in
-      let q = both_true (is_num (sort_of (term b k))) (is_array (sort_of (term b x))) p.0 in
-      (
+      let q = both_true (is_num (sort_of (term b k))) (is_array (sort_of (term b x))) p.0 in (
         as_number k w.terms.0 q.0,
         as_array x w.terms.1.0 q.1,
         record { left = w.terms.1.0; right = w.terms.1.1.0; kin = ap wide (sort_is (sort_of (term b x)) (sort_of (term b y)) p.1) },

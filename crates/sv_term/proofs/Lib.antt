@@ -16,5 +16,6 @@ pub mod Wide
 pub mod Distinct
 pub mod SortNumbers
 pub mod KindTests
+pub mod Cloned
 pub mod BankFits
 pub mod WorkedValues

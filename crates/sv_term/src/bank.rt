@@ -48,6 +48,16 @@ impl Bank {
         }
     }
 
+    /// A bank with the same sorts and nodes under the same numbers.
+    pub fn copied(&self) -> Result<Bank, NoMemory>
+        ensures { IfOk result (λ b. b ≡ self.now) }
+    {
+        Ok(Bank {
+            sorts: self.sorts.clone()?,
+            nodes: self.nodes.clone()?,
+        })
+    }
+
     /// How many terms there are.
     pub fn len(&self) -> usize
         ensures { result ≡ length self.now.nodes }

@@ -25,7 +25,9 @@ impl Bank {
             Node::Mul(_, _) => Ok(self.number_sort()?),
             Node::Div(_, _) => Ok(self.number_sort()?),
             Node::Mod(_, _) => Ok(self.number_sort()?),
-            Node::Wrap(signed, bits, _) => Ok(self.sort(SortNode::Num(Range::Bits(*signed, *bits)))?),
+            Node::Wrap(signed, bits, _) => Ok(self.sort(SortNode::Num(Range::Bits(
+                *signed, *bits,
+            )))?),
             Node::Le(_, _) => Ok(self.truth_sort()?),
             Node::Eq(_, _) => Ok(self.truth_sort()?),
             Node::Not(_) => Ok(self.truth_sort()?),

@@ -1,5 +1,5 @@
 use std::test::Fail;
-use sv_term::{Args, Bank, Node, Range, SortId, SortNode, TermId};
+use sv_term::{Args, Bank, Node, Range, RuleBook, SortId, SortNode, TermId};
 use sv_text::NoMemory;
 
 /// The term of the node where it fits.
@@ -84,4 +84,23 @@ fn a_node_and_a_misfit_of_each_kind(rt: HostRuntime) -> Result<(), Fail> {
         assert_eq!(rt; bank.fits(node), *fits);
     }
     Ok(())
+}
+
+#[test]
+fn a_node_has_one_number(rt: HostRuntime) -> Result<(), Fail> {
+    let mut bank = Bank::new(rt.alloc());
+    let one = bank.add(Node::Lit(false, 1))?;
+    let two = bank.add(Node::Lit(false, 2))?;
+    assert!(rt; one != two);
+    assert!(rt; bank.add(Node::Lit(false, 1))? == one);
+    assert_eq!(rt; bank.len(), 2);
+    let mut copy = bank.copied()?;
+    assert!(rt; copy.add(Node::Lit(false, 2))? == two);
+    assert_eq!(rt; copy.len(), 2);
+    Ok(())
+}
+
+#[test]
+fn a_book_is_made(rt: HostRuntime) {
+    let _book = RuleBook::new(rt.alloc());
 }

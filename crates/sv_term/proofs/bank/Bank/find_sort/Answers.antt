@@ -22,7 +22,7 @@ pub returns-clause-kind : goal.returns-clause-kind
 returns-clause-kind c =
     let f = found_at ((eq-value).it c.args.node.now) c.args.node.now c.self.inside.sorts.keys c.in_ok-number.number (sym c.in_ok-number.ensures.index) in
     let at : slice_get (map row_of c.self.inside.sorts.keys) c.in_ok-number.number ≡ Some (row_of c.args.node.now) =
-        get_map row_of c.self.inside.sorts.keys c.in_ok-number.number f.0 f.1 ∙ ap Some (sym (sort_node_is c.args.node.now f.0 f.2)) in
+    get_map row_of c.self.inside.sorts.keys c.in_ok-number.number f.0 f.1 ∙ ap Some (sym (sort_node_is c.args.node.now f.0 f.2)) in
     subst (λ b. IsKind b record { 0 = c.in_ok-number.number } (sort_tree b (row_of c.args.node.now))) c.self.view_is record {
       within = within_get (map row_of c.self.inside.sorts.keys) c.in_ok-number.number (row_of c.args.node.now) at;
       is = (c.self.invariant.0.sorts record { 0 = c.in_ok-number.number } (row_of c.args.node.now) at).is;
