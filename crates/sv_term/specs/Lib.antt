@@ -1,1 +1,13 @@
+pub mod Sorts
+pub mod Values
+pub mod Terms
+pub mod Models
+pub mod FactRules
+pub mod FactRuleTest
+pub mod TermLaws
+pub mod ModelMaking
+pub mod WorkedValues
+pub mod Banks
+pub mod NodeKinds
+pub mod Ids
 pub mod Book
