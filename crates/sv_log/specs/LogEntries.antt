@@ -1,5 +1,6 @@
 -- Believed: what the lines of a log hold. Hold it against the table of entries in the README.
-use Rattle.std.specs.Prelude.{ℕ, zero, suc, Bool, true, false, ◌+◌, ◌/◌, ◌<◌, ◌^◌, List, [], ◌∷◌, length, ℤ}
+use Rattle.std.specs.Prelude.{ℕ, Bool, true, false, ◌&&◌, ◌+◌, ◌/◌, ◌<◌, ◌^◌, List, [], ◌∷◌, length, ℤ}
+use Rattle.std.specs.List.{list_all}
 use Rattle.sv_term.specs.Sorts.{Sort, BoolSort}
 use Rattle.sv_term.specs.Terms.{Shape, LitNode, TruthNode, VarNode, AddNode, SubNode, MulNode, DivNode, ModNode, WrapNode, LeNode, EqNode, NotNode, AndNode, OrNode, IteNode, SelNode, StoNode, ConstNode, MixNode, TupNode, GetNode, SumNode}
 
@@ -64,69 +65,58 @@ pub data Entry : Type 0 where
 
 -- ---- which parts a node takes
 
-abbrev pub are_terms : List Part → Bool
-are_terms [] = true
-are_terms (TermPart n ∷ ps) = are_terms ps
-are_terms (p ∷ ps) = false
+-- what stands at a place of a node: a flag that is a sign, another flag, a number, a sort, a term, or any number of terms to the end
+pub data Slot : Type 0 where
+  SignSlot : Slot
+  FlagSlot : Slot
+  NumberSlot : Slot
+  SortSlot : Slot
+  TermSlot : Slot
+  TermsSlot : Slot
 
--- so many terms
-abbrev pub takes_terms : ℕ → List Part → Bool
-takes_terms zero [] = true
-takes_terms (suc k) (TermPart n ∷ ps) = takes_terms k ps
-takes_terms k ps = false
+abbrev pub slots_of : Kind → List Slot
+slots_of LitKind = SignSlot ∷ NumberSlot ∷ []
+slots_of TruthKind = FlagSlot ∷ []
+slots_of VarKind = NumberSlot ∷ SortSlot ∷ []
+slots_of AddKind = TermSlot ∷ TermSlot ∷ []
+slots_of SubKind = TermSlot ∷ TermSlot ∷ []
+slots_of MulKind = TermSlot ∷ TermSlot ∷ []
+slots_of DivKind = TermSlot ∷ TermSlot ∷ []
+slots_of ModKind = TermSlot ∷ TermSlot ∷ []
+slots_of WrapKind = FlagSlot ∷ NumberSlot ∷ TermSlot ∷ []
+slots_of LeKind = TermSlot ∷ TermSlot ∷ []
+slots_of EqKind = TermSlot ∷ TermSlot ∷ []
+slots_of NotKind = TermSlot ∷ []
+slots_of AndKind = TermSlot ∷ TermSlot ∷ []
+slots_of OrKind = TermSlot ∷ TermSlot ∷ []
+slots_of IteKind = TermSlot ∷ TermSlot ∷ TermSlot ∷ []
+slots_of SelKind = TermSlot ∷ TermSlot ∷ []
+slots_of StoKind = TermSlot ∷ TermSlot ∷ TermSlot ∷ []
+slots_of ConstKind = SortSlot ∷ TermSlot ∷ []
+slots_of MixKind = TermSlot ∷ TermSlot ∷ TermSlot ∷ []
+slots_of TupKind = SortSlot ∷ TermsSlot ∷ []
+slots_of GetKind = NumberSlot ∷ TermSlot ∷ []
+slots_of SumKind = TermSlot ∷ []
 
-abbrev pub takes_flag : List Part → Bool
-takes_flag (FlagPart b ∷ []) = true
-takes_flag ps = false
+abbrev pub fills : Slot → Part → Bool
+fills SignSlot (FlagPart b) = true
+fills FlagSlot (FlagPart b) = true
+fills NumberSlot (NumberPart m) = true
+fills SortSlot (SortPart s) = true
+fills TermSlot (TermPart n) = true
+fills TermsSlot (TermPart n) = true
+fills x p = false
 
-abbrev pub takes_flag_number : List Part → Bool
-takes_flag_number (FlagPart b ∷ NumberPart m ∷ []) = true
-takes_flag_number ps = false
-
-abbrev pub takes_number_sort : List Part → Bool
-takes_number_sort (NumberPart m ∷ SortPart s ∷ []) = true
-takes_number_sort ps = false
-
-abbrev pub takes_wrap : List Part → Bool
-takes_wrap (FlagPart b ∷ NumberPart m ∷ TermPart n ∷ []) = true
-takes_wrap ps = false
-
-abbrev pub takes_sort_term : List Part → Bool
-takes_sort_term (SortPart s ∷ TermPart n ∷ []) = true
-takes_sort_term ps = false
-
-abbrev pub takes_sort_terms : List Part → Bool
-takes_sort_terms (SortPart s ∷ ps) = are_terms ps
-takes_sort_terms ps = false
-
-abbrev pub takes_number_term : List Part → Bool
-takes_number_term (NumberPart m ∷ TermPart n ∷ []) = true
-takes_number_term ps = false
+abbrev pub fill : List Slot → List Part → Bool
+fill [] [] = true
+fill [] (p ∷ ps) = false
+fill (TermsSlot ∷ xs) ps = list_all (fills TermsSlot) ps
+fill (x ∷ xs) [] = false
+fill (x ∷ xs) (p ∷ ps) = fills x p && fill xs ps
 
 -- the parts are in the number and of the kinds that the node takes
 abbrev pub suits : Kind → List Part → Bool
-suits LitKind ps = takes_flag_number ps
-suits TruthKind ps = takes_flag ps
-suits VarKind ps = takes_number_sort ps
-suits AddKind ps = takes_terms 2 ps
-suits SubKind ps = takes_terms 2 ps
-suits MulKind ps = takes_terms 2 ps
-suits DivKind ps = takes_terms 2 ps
-suits ModKind ps = takes_terms 2 ps
-suits WrapKind ps = takes_wrap ps
-suits LeKind ps = takes_terms 2 ps
-suits EqKind ps = takes_terms 2 ps
-suits NotKind ps = takes_terms 1 ps
-suits AndKind ps = takes_terms 2 ps
-suits OrKind ps = takes_terms 2 ps
-suits IteKind ps = takes_terms 3 ps
-suits SelKind ps = takes_terms 2 ps
-suits StoKind ps = takes_terms 3 ps
-suits ConstKind ps = takes_sort_term ps
-suits MixKind ps = takes_terms 3 ps
-suits TupKind ps = takes_sort_terms ps
-suits GetKind ps = takes_number_term ps
-suits SumKind ps = takes_terms 1 ps
+suits kind ps = fill (slots_of kind) ps
 
 -- ---- the node that the parts make
 
