@@ -7,4 +7,9 @@ pub mod FactRules
 pub mod FactRuleTest
 pub mod ModelMaking
 pub mod Gathered
+pub mod BankLists
+pub mod NodeTrees
+pub mod BankGrowth
+pub mod NodeEquality
+pub mod Keyed
 pub mod Examples

@@ -6,4 +6,6 @@ pub mod FactRules
 pub mod FactRuleTest
 pub mod TermLaws
 pub mod ModelMaking
+pub mod Banks
+pub mod Ids
 pub mod Book

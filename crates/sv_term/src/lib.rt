@@ -4,10 +4,16 @@
 //! Stands on: std alone.
 #![tactic(auto)]
 
+mod args;
+mod bank;
 mod book;
 pub mod laws;
+mod node;
 
+pub use args::Args;
+pub use bank::Bank;
 pub use book::RuleBook;
+pub use node::{Node, Range, SortId, SortNode, TermId};
 
 #[cfg(test)]
 mod tests {
