@@ -5,4 +5,13 @@
 //! Read first: `specs/LogText.antt`.
 #![tactic(auto)]
 
+mod kind;
 pub mod laws;
+mod log;
+mod part;
+mod sort;
+
+pub use kind::{NodeKind, Slot};
+pub use log::{Entry, Log, LogNode, Row};
+pub use part::Part;
+pub use sort::LogSort;
