@@ -1,5 +1,5 @@
 -- An entry and its words give each other.
-use Rattle.std.proofs.Common.{ℕ, zero, suc, ◌^◌, ◌<◌, ◌≤◌, Bool, true, false, cond, not, ◌&&◌, List, [], ◌∷◌, ◌++◌, map, ◌≡◌, refl, sym, ap, ap₂, ◌∙◌, subst, arith, Option, None, Some, lit≤}
+use Rattle.std.proofs.Common.{ℕ, zero, suc, ◌^◌, ◌<◌, ◌≤◌, Bool, true, false, cond, not, ◌&&◌, nat_eq, List, [], ◌∷◌, ◌++◌, map, ◌≡◌, refl, sym, ap, ap₂, ◌∙◌, subst, arith, Option, None, Some, lit≤}
 use Rattle.std.specs.Prelude.{codes, find}
 use Rattle.std.specs.List.{list_all}
 use Rattle.std.specs.Fmt.{decimal, signed_decimal}
@@ -7,7 +7,7 @@ use Rattle.std.specs.Str.{bytes_eq}
 use Rattle.std.proofs.lemmas.Slice.Eq.{bytes_eq-Decides}
 use lib.IntN.{ℤ}
 use Rattle.sv_num.specs.Range.{IsI128}
-use Rattle.sv_term.proofs.Same.{both_true, and_true}
+use Rattle.sv_term.proofs.Same.{both_true, and_true, same_nat}
 use Rattle.sv_log.specs.LogEntries.{Monomial, Row, Kind, LitKind, TruthKind, VarKind, AddKind, SubKind, MulKind, DivKind, ModKind, WrapKind, LeKind, EqKind, NotKind, AndKind, OrKind, IteKind, SelKind, StoKind, ConstKind, MixKind, TupKind, GetKind, SumKind, Part, TermPart, SortPart, NumberPart, FlagPart, LogNode, Slot, SignSlot, FlagSlot, NumberSlot, SortSlot, TermSlot, TermsSlot, slots_of, fills, fill, suits, Entry, AddTerm, AddFact, Linear, Combine, Divide, SplitOn, Cut, CloseAt, Clash}
 use Rattle.sv_log.specs.LogRows.{monomial, row}
 use Rattle.sv_cert.specs.LogText.{Word, name_of, sign_word, flag_word, part_word, part_words, monomial_words, row_words, words_of, IsIndex, IsPart, AreParts, AreIndexes, AreMonomials, IsRow, IsEntry}
@@ -36,24 +36,33 @@ flag_of_word false = refl
 same_bytes : (v w : Word) → bytes_eq v w ≡ true → v ≡ w
 same_bytes v w e = (bytes_eq-Decides v w).0 e
 
--- what a choice of two words reads
-choice_back : (w p q : Word) (b : Bool) → cond (bytes_eq w p) (Some true) (cond (bytes_eq w q) (Some false) None) ≡ Some b → cond b p q ≡ w
-choice_back w p q b e = go (bytes_eq w p) refl e
+-- what a choice of two bytes reads
+choice_back : (c p q : ℕ) (b : Bool) → cond (nat_eq c p) (Some true) (cond (nat_eq c q) (Some false) None) ≡ Some b → cond b p q ≡ c
+choice_back c p q b e = go (nat_eq c p) refl e
   where
-    other : (t : Bool) → bytes_eq w q ≡ t → cond t (Some false) None ≡ Some b → cond b p q ≡ w
-    other true f i = let is : false ≡ b = cc i in ap (λ c. cond c p q) (sym is) ∙ sym (same_bytes w q f)
+    other : (t : Bool) → nat_eq c q ≡ t → cond t (Some false) None ≡ Some b → cond b p q ≡ c
+    other true f i = let is : false ≡ b = cc i in ap (λ x. cond x p q) (sym is) ∙ sym (same_nat c q f)
     other false f i = cc i
-    go : (t : Bool) → bytes_eq w p ≡ t → cond t (Some true) (cond (bytes_eq w q) (Some false) None) ≡ Some b → cond b p q ≡ w
-    go true f i = let is : true ≡ b = cc i in ap (λ c. cond c p q) (sym is) ∙ sym (same_bytes w p f)
-    go false f i = other (bytes_eq w q) refl i
+
+    go : (t : Bool) → nat_eq c p ≡ t → cond t (Some true) (cond (nat_eq c q) (Some false) None) ≡ Some b → cond b p q ≡ c
+    go true f i = let is : true ≡ b = cc i in ap (λ x. cond x p q) (sym is) ∙ sym (same_nat c p f)
+    go false f i = other (nat_eq c q) refl i
+
+one_byte : (b : Bool) (p q : ℕ) → cond b (p ∷ []) (q ∷ []) ≡ cond b p q ∷ []
+one_byte true p q = refl
+one_byte false p q = refl
 
 word_of_sign : (w : Word) (b : Bool) → sign w ≡ Some b → sign_word b ≡ w
 unfolding sign
-word_of_sign w b e = choice_back w (codes "+") (codes "-") b e
+word_of_sign [] b e = cc e
+word_of_sign (c ∷ []) b e = one_byte b 43 45 ∙ ap (λ x. x ∷ []) (choice_back c 43 45 b e)
+word_of_sign (c ∷ d ∷ cs) b e = cc e
 
 word_of_flag : (w : Word) (b : Bool) → flag w ≡ Some b → flag_word b ≡ w
 unfolding flag
-word_of_flag w b e = choice_back w (codes "1") (codes "0") b e
+word_of_flag [] b e = cc e
+word_of_flag (c ∷ []) b e = one_byte b 49 48 ∙ ap (λ x. x ∷ []) (choice_back c 49 48 b e)
+word_of_flag (c ∷ d ∷ cs) b e = cc e
 
 -- ---- the first word
 
@@ -86,7 +95,7 @@ each_index : (ns : List ℕ) → AreIndexes ns → each index (map decimal ns) �
 each_index [] h = refl
 each_index (n ∷ ns) h =
     bind_is (index (decimal n)) n (λ a. each index (map decimal ns) >>= (λ rest. Some (a ∷ rest))) (Some (n ∷ ns)) (index_decimal n h.0)
-      (bind_is (each index (map decimal ns)) ns (λ rest. Some (n ∷ rest)) (Some (n ∷ ns)) (each_index ns h.1) refl)
+    (bind_is (each index (map decimal ns)) ns (λ rest. Some (n ∷ rest)) (Some (n ∷ ns)) (each_index ns h.1) refl)
 
 index_each : (ws : List Word) (ns : List ℕ) → each index ws ≡ Some ns → (map decimal ns ≡ ws) × AreIndexes ns
 index_each [] ns e = let is : [] ≡ ns = cc e in (ap (map decimal) (sym is), subst AreIndexes is tt)
@@ -102,8 +111,8 @@ monomials_of : (ps : List Monomial) → AreMonomials ps → monomials (monomial_
 monomials_of [] h = refl
 monomials_of (p ∷ ps) h =
     bind_is (integer (signed_decimal p.factor)) p.factor (λ k. index (decimal p.column) >>= (λ x. monomials (monomial_words ps) >>= (λ qs. Some (monomial k x ∷ qs)))) (Some (p ∷ ps)) (integer_decimal p.factor h.0)
-      (bind_is (index (decimal p.column)) p.column (λ x. monomials (monomial_words ps) >>= (λ qs. Some (monomial p.factor x ∷ qs))) (Some (p ∷ ps)) (index_decimal p.column h.1)
-        (bind_is (monomials (monomial_words ps)) ps (λ qs. Some (monomial p.factor p.column ∷ qs)) (Some (p ∷ ps)) (monomials_of ps h.2) refl))
+    (bind_is (index (decimal p.column)) p.column (λ x. monomials (monomial_words ps) >>= (λ qs. Some (monomial p.factor x ∷ qs))) (Some (p ∷ ps)) (index_decimal p.column h.1)
+    (bind_is (monomials (monomial_words ps)) ps (λ qs. Some (monomial p.factor p.column ∷ qs)) (Some (p ∷ ps)) (monomials_of ps h.2) refl))
 
 words_of_monomials : (ws : List Word) (ps : List Monomial) → monomials ws ≡ Some ps → (monomial_words ps ≡ ws) × AreMonomials ps
 words_of_monomials [] ps e = let is : [] ≡ ps = cc e in (ap monomial_words (sym is), subst AreMonomials is tt)
@@ -121,7 +130,7 @@ words_of_monomials (w ∷ v ∷ ws) ps e =
 row_of_words : (r : Row) → IsRow r → row_in (row_words r) ≡ Some r
 row_of_words r h =
     first_is integer (signed_decimal r.constant) (monomial_words r.parts) row_from r.constant (Some r) (integer_decimal r.constant h.0)
-      (bind_is (monomials (monomial_words r.parts)) r.parts (λ ps. Some (row r.constant ps)) (Some r) (monomials_of r.parts h.1) refl)
+    (bind_is (monomials (monomial_words r.parts)) r.parts (λ ps. Some (row r.constant ps)) (Some r) (monomials_of r.parts h.1) refl)
 
 words_of_row : (ws : List Word) (r : Row) → row_in ws ≡ Some r → (row_words r ≡ ws) × IsRow r
 words_of_row ws r e =
@@ -187,7 +196,7 @@ each_term [] f h = refl
 each_term (p ∷ ps) f h =
     let b = both_true (fills TermsSlot p) (list_all (fills TermsSlot) ps) f in
     bind_is (term_part (part_word TermsSlot p)) p (λ a. each term_part (map (part_word TermsSlot) ps) >>= (λ rest. Some (a ∷ rest))) (Some (p ∷ ps)) (part_of_word TermsSlot p b.0 h.0)
-      (bind_is (each term_part (map (part_word TermsSlot) ps)) ps (λ rest. Some (p ∷ rest)) (Some (p ∷ ps)) (each_term ps b.1 h.1) refl)
+    (bind_is (each term_part (map (part_word TermsSlot) ps)) ps (λ rest. Some (p ∷ rest)) (Some (p ∷ ps)) (each_term ps b.1 h.1) refl)
 
 record Parts_back (words : List Part → List Word) (fits : List Part → Bool) (ws : List Word) (ps : List Part) : Type 0 where
   text : words ps ≡ ws
@@ -214,7 +223,7 @@ more_parts : (x : Slot) (xs : List Slot) (p : Part) (ps : List Part) → part_in
     → first (part_in x) (part_word x p ∷ part_words xs ps) (λ p rest. parts_in xs rest >>= (λ ps. Some (p ∷ ps))) ≡ Some (p ∷ ps)
 more_parts x xs p ps e g =
     first_is (part_in x) (part_word x p) (part_words xs ps) (λ p rest. parts_in xs rest >>= (λ ps. Some (p ∷ ps))) p (Some (p ∷ ps)) e
-      (bind_is (parts_in xs (part_words xs ps)) ps (λ qs. Some (p ∷ qs)) (Some (p ∷ ps)) g refl)
+    (bind_is (parts_in xs (part_words xs ps)) ps (λ qs. Some (p ∷ qs)) (Some (p ∷ ps)) g refl)
 
 parts_of_words : (xs : List Slot) (ps : List Part) → fill xs ps ≡ true → AreParts ps → parts_in xs (part_words xs ps) ≡ Some ps
 parts_of_words [] [] f h = refl
@@ -312,7 +321,7 @@ node_words node = name_of node.kind ∷ part_words (slots_of node.kind) node.par
 node_of_words : (node : LogNode) → suits node.kind node.parts ≡ true → AreParts node.parts → node_in (node_words node) ≡ Some node
 node_of_words node f h =
     first_is kind_in (name_of node.kind) (part_words (slots_of node.kind) node.parts) node_of node.kind (Some node) (kind_of_word node.kind)
-      (bind_is (parts_in (slots_of node.kind) (part_words (slots_of node.kind) node.parts)) node.parts (λ ps. Some (node_from node.kind ps)) (Some node) (parts_of_words (slots_of node.kind) node.parts f h) refl)
+    (bind_is (parts_in (slots_of node.kind) (part_words (slots_of node.kind) node.parts)) node.parts (λ ps. Some (node_from node.kind ps)) (Some node) (parts_of_words (slots_of node.kind) node.parts f h) refl)
 
 record Node_back (ws : List Word) (node : LogNode) : Type 0 where
   text : node_words node ≡ ws
@@ -338,29 +347,29 @@ entry_of_words (AddTerm node) h =
     bind_is (node_in (node_words node)) node (λ node. Some (AddTerm node)) (Some (AddTerm node)) (node_of_words node h.0 h.1) refl
 entry_of_words (AddFact rule sgn n from) h =
     first_is (numeral (2 ^ 8)) (decimal rule) (sign_word sgn ∷ decimal n ∷ map decimal from) fact_sign rule (Some (AddFact rule sgn n from)) (numeral_decimal (2 ^ 8) rule h.0 (lit≤ tt))
-      (first_is sign (sign_word sgn) (decimal n ∷ map decimal from) (fact_term rule) sgn (Some (AddFact rule sgn n from)) (sign_of_word sgn)
-        (first_is index (decimal n) (map decimal from) (fact_from rule sgn) n (Some (AddFact rule sgn n from)) (index_decimal n h.1)
-          (bind_is (each index (map decimal from)) from (λ from. Some (AddFact rule sgn n from)) (Some (AddFact rule sgn n from)) (each_index from h.2) refl)))
+    (first_is sign (sign_word sgn) (decimal n ∷ map decimal from) (fact_term rule) sgn (Some (AddFact rule sgn n from)) (sign_of_word sgn)
+    (first_is index (decimal n) (map decimal from) (fact_from rule sgn) n (Some (AddFact rule sgn n from)) (index_decimal n h.1)
+    (bind_is (each index (map decimal from)) from (λ from. Some (AddFact rule sgn n from)) (Some (AddFact rule sgn n from)) (each_index from h.2) refl)))
 entry_of_words (Linear p forward r) h =
     first_is index (decimal p) (sign_word forward ∷ row_words r) linear_sign p (Some (Linear p forward r)) (index_decimal p h.0)
-      (first_is sign (sign_word forward) (row_words r) (linear_row p) forward (Some (Linear p forward r)) (sign_of_word forward)
-        (row_more (row_words r) (Linear p forward) r (row_of_words r h.1)))
+    (first_is sign (sign_word forward) (row_words r) (linear_row p) forward (Some (Linear p forward r)) (sign_of_word forward)
+    (row_more (row_words r) (Linear p forward) r (row_of_words r h.1)))
 entry_of_words (Combine m p n q r) h =
     first_is integer (signed_decimal m) (decimal p ∷ signed_decimal n ∷ decimal q ∷ row_words r) combine_first m (Some (Combine m p n q r)) (integer_decimal m h.0)
-      (first_is index (decimal p) (signed_decimal n ∷ decimal q ∷ row_words r) (combine_times m) p (Some (Combine m p n q r)) (index_decimal p h.1)
-        (first_is integer (signed_decimal n) (decimal q ∷ row_words r) (combine_second m p) n (Some (Combine m p n q r)) (integer_decimal n h.2)
-          (first_is index (decimal q) (row_words r) (combine_row m p n) q (Some (Combine m p n q r)) (index_decimal q h.3)
-            (row_more (row_words r) (Combine m p n q) r (row_of_words r h.4)))))
+    (first_is index (decimal p) (signed_decimal n ∷ decimal q ∷ row_words r) (combine_times m) p (Some (Combine m p n q r)) (index_decimal p h.1)
+    (first_is integer (signed_decimal n) (decimal q ∷ row_words r) (combine_second m p) n (Some (Combine m p n q r)) (integer_decimal n h.2)
+    (first_is index (decimal q) (row_words r) (combine_row m p n) q (Some (Combine m p n q r)) (index_decimal q h.3)
+    (row_more (row_words r) (Combine m p n q) r (row_of_words r h.4)))))
 entry_of_words (Divide d p r) h =
     first_is integer (signed_decimal d) (decimal p ∷ row_words r) divide_item d (Some (Divide d p r)) (integer_decimal d h.0)
-      (first_is index (decimal p) (row_words r) (divide_row d) p (Some (Divide d p r)) (index_decimal p h.1)
-        (row_more (row_words r) (Divide d p) r (row_of_words r h.2)))
+    (first_is index (decimal p) (row_words r) (divide_row d) p (Some (Divide d p r)) (index_decimal p h.1)
+    (row_more (row_words r) (Divide d p) r (row_of_words r h.2)))
 entry_of_words (SplitOn n) h = first_is index (decimal n) [] split_end n (Some (SplitOn n)) (index_decimal n h) refl
 entry_of_words Cut h = refl
 entry_of_words (CloseAt p) h = first_is index (decimal p) [] close_end p (Some (CloseAt p)) (index_decimal p h) refl
 entry_of_words (Clash p q) h =
     first_is index (decimal p) (decimal q ∷ []) close_end p (Some (Clash p q)) (index_decimal p h.0)
-      (first_is index (decimal q) [] (clash_end p) q (Some (Clash p q)) (index_decimal q h.1) refl)
+    (first_is index (decimal q) [] (clash_end p) q (Some (Clash p q)) (index_decimal q h.1) refl)
 
 -- the words are the entry's, and its numbers are of their types
 pub record EntryBack (ws : List Word) (e : Entry) : Type 0 where

@@ -347,13 +347,14 @@ faulty_line text before rest line more t h i o n = record {
   size = refl;
   some = λ e. full line (sym e ∙ i);
   none = λ e after k j.
-    let r = first_line_one line (bare_line e) more after o (one_line_entry e k) (sym i ∙ (j ∙ line_more e after)) in
-    clash (sym n ∙ (ap entry_of_line r.0 ∙ entry_of_its_line e k));
+      let r = first_line_one line (bare_line e) more after o (one_line_entry e k) (sym i ∙ (j ∙ line_more e after)) in
+      clash (sym n ∙ (ap entry_of_line r.0 ∙ entry_of_its_line e k));
 }
   where
     full : (w : List ℕ) → [] ≡ w ++ 10 ∷ more → ⊥
     full [] e = absurd (let f = ap length e in omega (arith, f))
     full (c ∷ w) e = absurd (let f = ap length e in omega (arith, f))
+
     clash : {e : Entry} → None ≡ Some e → ⊥
     clash e = absurd (none_some e)
       where
@@ -363,6 +364,7 @@ faulty_line text before rest line more t h i o n = record {
             is_there : Option Entry → Bool
             is_there None = false
             is_there (Some x) = true
+
             differ : false ≡ true → ⊥
             differ i = cc i
 

@@ -1,19 +1,24 @@
 -- A number and its digits give each other.
 use Rattle.std.proofs.Common.{ℕ, zero, suc, ◌+◌, ◌-◌, ◌*◌, ◌/◌, ◌%◌, ◌^◌, ◌<◌, ◌≤◌, Bool, true, false, cond, not, ◌&&◌, ◌||◌, nat_eq, nat_lt, List, [], ◌∷◌, ◌++◌, length, get_or, take, ◌≡◌, ◌⊎◌, inl, inr, refl, sym, ap, ap₂, ◌∙◌, subst, arith, Option, None, Some, lit≤, lit<}
 use Rattle.std.proofs.lemmas.Bool.Decides.{Decides-ltb, Decides-eqb, nat_tests}
-use Rattle.std.proofs.lemmas.Str.Parse.{IsNumeralModel, numerals_by_value, tells_all_ascii_digits, digit_from_value, digits_value-take-le}
+use Rattle.std.proofs.lemmas.Str.{IsUtf8-from_ascii}
+use Rattle.std.proofs.lemmas.Fmt.{IsAscii-from_digits}
+use Rattle.std.specs.Str.{IsUtf8}
+use Rattle.std.specs.Char.{is_ascii_digit}
+use Rattle.std.proofs.lemmas.Str.Parse.{parse_plain, IsNumeralModel, numerals_by_value, tells_all_ascii_digits, digit_from_value, digits_value-take-le}
 use Rattle.std.proofs.lemmas.Int.Digits.{digits_value_push}
 use Rattle.std.proofs.lemmas.Int.{ints}
 use Rattle.std.proofs.lemmas.Fmt.{decimal_is_IsNumeral_wide, decimal_by_steps_wide, decimal_digit}
 use Rattle.std.specs.Char.{digit_value}
 use Rattle.std.specs.Fmt.{decimal, signed_decimal}
 use Rattle.std.specs.Str.{all_ascii_digits}
-use Rattle.std.specs.Str.Parse.{digits_value, AllDigits}
+use Rattle.std.specs.Str.Parse.{digits_value, AllDigits, IsNumeral, without_leading_plus}
+use Rattle.std.specs.Prelude.{Result, Ok, Err}
 use lib.IntN.{ℤ, pos, negsuc, neg_ℤ}
 use lib.Signed.{◌≤ℤ◌, ◌<ℤ◌}
 use Rattle.sv_num.specs.Range.{IsI128}
 use Rattle.sv_term.proofs.Same.{both_true, and_true, same_nat, nat_same}
-use Rattle.sv_cert.specs.LogReading.{◌>>=◌, is_numeral, numeral, index, negated, integer}
+use Rattle.sv_cert.specs.LogReading.{◌>>=◌, starts_plainly, is_numeral, numeral, index, negated, negative, integer}
 
 model : IsNumeralModel (λ ds. all_ascii_digits ds ≡ true) (digits_value 10)
 model = numerals_by_value _ tells_all_ascii_digits
@@ -33,6 +38,7 @@ first_digit n h = decimal_by_steps_wide (λ n ds. (0 < length ds) × (0 < n → 
   where
     one : (n : ℕ) → n < 10 → (0 < length ((48 + n) ∷ [])) × (0 < n → 48 < get_or ((48 + n) ∷ []) 0 0)
     one n lt = (omega arith, λ p. omega arith)
+
     more : (n : ℕ) (ds : List ℕ) → 10 ≤ n → (0 < length ds) × (0 < n / 10 → 48 < get_or ds 0 0) → (0 < length (ds ++ (48 + n % 10) ∷ [])) × (0 < n → 48 < get_or (ds ++ (48 + n % 10) ∷ []) 0 0)
     more n ds ge ih =
         let k = head_kept ds (48 + n % 10) ih.0 in
@@ -41,7 +47,7 @@ first_digit n h = decimal_by_steps_wide (λ n ds. (0 < length ds) × (0 < n → 
 
 canonical : (w : List ℕ) → all_ascii_digits w ≡ true → 0 < length w → (get_or w 0 0 ≡ 48 → length w ≡ 1) → is_numeral w ≡ true
 canonical [] a l z = absurd (omega (arith, l))
-canonical (c ∷ cs) a l z = and_true (all_ascii_digits (c ∷ cs)) (not (nat_eq c 48) || nat_eq (length cs) 0) a (go (nat_eq c 48) refl)
+canonical (c ∷ cs) a l z = and_true (all_ascii_digits (c ∷ cs)) (starts_plainly (c ∷ cs)) a (and_true _ _ (both_true _ (all_ascii_digits cs) a).0 (go (nat_eq c 48) refl))
   where
     go : (b : Bool) → nat_eq c 48 ≡ b → (not b || nat_eq (length cs) 0) ≡ true
     go true e = let one = z (same_nat c 48 e) in nat_same (length cs) 0 (omega arith)
@@ -84,8 +90,8 @@ record IsPlain (w : List ℕ) : Type 0 where
 plain_of : (w : List ℕ) → is_numeral w ≡ true → IsPlain w
 plain_of [] e = cc e
 plain_of (c ∷ cs) e =
-    let b = both_true (all_ascii_digits (c ∷ cs)) (not (nat_eq c 48) || nat_eq (length cs) 0) e in
-    record { digits = b.0; some = omega arith; first = go (nat_eq c 48) refl b.1 }
+    let b = both_true (all_ascii_digits (c ∷ cs)) (starts_plainly (c ∷ cs)) e in
+    record { digits = b.0; some = omega arith; first = go (nat_eq c 48) refl (both_true _ (not (nat_eq c 48) || nat_eq (length cs) 0) b.1).1 }
   where
     go : (b : Bool) → nat_eq c 48 ≡ b → (not b || nat_eq (length cs) 0) ≡ true → c ≡ 48 → length (c ∷ cs) ≡ 1
     go true e f i = let z = same_nat (length cs) 0 f in omega arith
@@ -152,8 +158,10 @@ numeral_one n h = decimal_by_steps_wide (λ n ds. (w : List ℕ) → IsPlain w �
         let f = front_of s.0 s.1 (subst IsPlain s.2 p) in
         let v : digits_value 10 s.0 * 10 + digit_value s.1 ≡ n = sym f.value ∙ (ap (digits_value 10) (sym s.2) ∙ e) in
         elim f.front [
-            inl none ↦ let z = ap (digits_value 10) none in let i = f.is in s.2 ∙ ap₂ (λ u d. u ++ d ∷ []) none (omega (arith, v, z, i))
-          | inr some ↦ let z = some.0 in absurd (omega (arith, v, z)) ]
+          | inl none ↦ let z = ap (digits_value 10) none in let i = f.is in s.2 ∙ ap₂ (λ u d. u ++ d ∷ []) none (omega (arith, v, z, i))
+          | inr some ↦ let z = some.0 in absurd (omega (arith, v, z))
+        ]
+
     more : (n : ℕ) (ds : List ℕ) → 10 ≤ n → ((w : List ℕ) → IsPlain w → digits_value 10 w ≡ n / 10 → w ≡ ds) → (w : List ℕ) → IsPlain w → digits_value 10 w ≡ n → w ≡ ds ++ (48 + n % 10) ∷ []
     more n ds ge ih [] p e = absurd (let s = p.some in omega (arith, s))
     more n ds ge ih (c ∷ cs) p e =
@@ -162,8 +170,9 @@ numeral_one n h = decimal_by_steps_wide (λ n ds. (w : List ℕ) → IsPlain w �
         let v : digits_value 10 s.0 * 10 + digit_value s.1 ≡ n = sym f.value ∙ (ap (digits_value 10) (sym s.2) ∙ e) in
         let k = f.digit in
         elim f.front [
-            inl none ↦ let z = ap (digits_value 10) none in absurd (omega (arith, v, z, k))
-          | inr some ↦ let i = f.is in s.2 ∙ ap₂ (λ u d. u ++ d ∷ []) (ih s.0 some.1 (omega (arith, v, k))) (omega (arith, v, k, i)) ]
+          | inl none ↦ let z = ap (digits_value 10) none in absurd (omega (arith, v, z, k))
+          | inr some ↦ let i = f.is in s.2 ∙ ap₂ (λ u d. u ++ d ∷ []) (ih s.0 some.1 (omega (arith, v, k))) (omega (arith, v, k, i))
+        ]
 
 pub numeral_back : (limit : ℕ) (w : List ℕ) (n : ℕ) → limit ≤ 10 ^ 64 → numeral limit w ≡ Some n → (decimal n ≡ w) × (n < limit)
 unfolding numeral
@@ -200,7 +209,7 @@ unfolding integer
 plain_integer [] e = cc e
 plain_integer (c ∷ cs) e =
     ap (λ b. cond b (numeral (2 ^ 127 + 1) cs >>= negated) (numeral (2 ^ 127) (c ∷ cs) >>= (λ n. Some (pos n))))
-      (not_minus c cs (both_true (all_ascii_digits (c ∷ cs)) _ e).0)
+    (not_minus c cs (both_true (all_ascii_digits (c ∷ cs)) _ e).0)
 
 pub below_limit : (n : ℕ) → pos n <ℤ pos (2 ^ 127) → n < 2 ^ 127
 below_limit n h = omega (arith, ints)
@@ -234,6 +243,7 @@ integer_back (c ∷ cs) z e = go (nat_eq c 45) refl e
         let b = numeral_back (2 ^ 127 + 1) cs (suc n) (lit≤ tt) r in
         let is : negsuc n ≡ z = cc f in
         (subst (λ y. signed_decimal y ≡ c ∷ cs) is (ap₂ (λ x xs. x ∷ xs) (sym i) b.0), subst IsI128 is (neg_fits n b.1))
+
     go : (b : Bool) → nat_eq c 45 ≡ b → cond b (numeral (2 ^ 127 + 1) cs >>= negated) (numeral (2 ^ 127) (c ∷ cs) >>= (λ n. Some (pos n))) ≡ Some z → (signed_decimal z ≡ c ∷ cs) × IsI128 z
     go true i f = let r = bind_some (numeral (2 ^ 127 + 1) cs) negated z f in minus r.0 r.1 (same_nat c 45 i) r.2
     go false i f =
@@ -241,3 +251,116 @@ integer_back (c ∷ cs) z e = go (nat_eq c 45) refl e
         let b = numeral_back (2 ^ 127) (c ∷ cs) r.0 (lit≤ tt) r.1 in
         let is : pos r.0 ≡ z = cc r.2 in
         (subst (λ y. signed_decimal y ≡ c ∷ cs) is b.0, subst IsI128 is (pos_fits r.0 b.1))
+
+-- ---- reading a number with std
+
+numeral_none : (limit : ℕ) (w : List ℕ) → ((is_numeral w && nat_lt (digits_value 10 w) limit) ≡ true → ⊥) → numeral limit w ≡ None
+unfolding numeral
+numeral_none limit w h = go (is_numeral w && nat_lt (digits_value 10 w) limit) refl
+  where
+    go : (b : Bool) → (is_numeral w && nat_lt (digits_value 10 w) limit) ≡ b → cond b (Some (digits_value 10 w)) None ≡ None
+    go true e = absurd (h e)
+    go false e = refl
+
+clash : (b : Bool) → b ≡ true → b ≡ false → ⊥
+clash true e f = cc f
+clash false e f = cc e
+
+plain_start : (w : List ℕ) → is_numeral w ≡ true → starts_plainly w ≡ true
+plain_start [] e = cc e
+plain_start (c ∷ cs) e = (both_true (all_ascii_digits (c ∷ cs)) (starts_plainly (c ∷ cs)) e).1
+
+pub numeral_unplain : (limit : ℕ) (w : List ℕ) → starts_plainly w ≡ false → numeral limit w ≡ None
+numeral_unplain limit w h = numeral_none limit w (λ e. clash (starts_plainly w) (plain_start w (both_true (is_numeral w) _ e).0) h)
+
+pub numeral_no_text : (limit : ℕ) (w : List ℕ) → (IsUtf8 w → ⊥) → numeral limit w ≡ None
+numeral_no_text limit w h =
+    numeral_none limit w (λ e. h (IsUtf8-from_ascii w (IsAscii-from_digits w (model.to w (plain_of w (both_true (is_numeral w) _ e).0).digits))))
+
+no_plus : (w : List ℕ) → starts_plainly w ≡ true → get_or w 0 0 ≡ 43 → ⊥
+no_plus [] e i = cc e
+no_plus (c ∷ cs) e i = clash (is_ascii_digit c) (both_true (is_ascii_digit c) _ e).0 (ap is_ascii_digit i)
+
+rest_plain : (w : List ℕ) → starts_plainly w ≡ true → all_ascii_digits w ≡ true → is_numeral w ≡ true
+rest_plain [] e a = cc e
+rest_plain (c ∷ cs) e a = and_true (all_ascii_digits (c ∷ cs)) (starts_plainly (c ∷ cs)) a e
+
+-- what `parse` says where it reads a number
+abbrev pub Parsed : List ℕ → Type 0
+Parsed w = IsNumeral 10 (without_leading_plus w) × (digits_value 10 (without_leading_plus w) < 2 ^ 128)
+
+pub numeral_parsed : (w : List ℕ) (n : ℕ) → starts_plainly w ≡ true → Parsed w × (n ≡ digits_value 10 (without_leading_plus w)) → numeral (2 ^ 128) w ≡ Some n
+numeral_parsed w n s h =
+    let p = parse_plain model {E = ℕ} 128 w (Ok n) h (no_plus w s) in
+    numeral_is (2 ^ 128) w n (rest_plain w s p.0.0) (sym p.1) (subst (λ v. v < 2 ^ 128) (sym p.1) p.0.2)
+
+pub numeral_unparsed : (w : List ℕ) → starts_plainly w ≡ true → (Parsed w → ⊥) → numeral (2 ^ 128) w ≡ None
+numeral_unparsed w s h =
+    let p = parse_plain model {E = ℕ} 128 w (Err 0) h (no_plus w s) in
+    numeral_none (2 ^ 128) w (λ t.
+    let b = both_true (is_numeral w) (nat_lt (digits_value 10 w) (2 ^ 128)) t in
+    let q = plain_of w b.0 in
+    p (q.digits, q.some, true_lt (digits_value 10 w) (2 ^ 128) b.1))
+
+-- a number under a smaller limit
+pub numeral_small : (limit : ℕ) (w : List ℕ) (n : ℕ) → numeral (2 ^ 128) w ≡ Some n → n < limit → numeral limit w ≡ Some n
+unfolding numeral
+numeral_small limit w n e h = go (is_numeral w && nat_lt (digits_value 10 w) (2 ^ 128)) refl e
+  where
+    go : (b : Bool) → (is_numeral w && nat_lt (digits_value 10 w) (2 ^ 128)) ≡ b → cond b (Some (digits_value 10 w)) None ≡ Some n → numeral limit w ≡ Some n
+    go true t f = let v : digits_value 10 w ≡ n = cc f in numeral_is limit w n (both_true (is_numeral w) _ t).0 v h
+    go false t f = cc f
+
+pub numeral_large : (limit : ℕ) (w : List ℕ) (n : ℕ) → numeral (2 ^ 128) w ≡ Some n → limit ≤ n → numeral limit w ≡ None
+unfolding numeral
+numeral_large limit w n e h = numeral_none limit w (λ t.
+    let b = both_true (is_numeral w) (nat_lt (digits_value 10 w) limit) t in
+    go (is_numeral w && nat_lt (digits_value 10 w) (2 ^ 128)) e (true_lt (digits_value 10 w) limit b.1))
+  where
+    go : (b : Bool) → cond b (Some (digits_value 10 w)) None ≡ Some n → digits_value 10 w < limit → ⊥
+    go true f l = let v : digits_value 10 w ≡ n = cc f in absurd (omega (arith, v, l, h))
+    go false f l = absurd (no f)
+      where
+        no : None ≡ Some n → ⊥
+        no g = let x : false ≡ true = ap (λ o. there o) g in absurd (differ x)
+          where
+            there : Option ℕ → Bool
+            there None = false
+            there (Some y) = true
+
+            differ : false ≡ true → ⊥
+            differ i = cc i
+
+pub numeral_none_small : (limit : ℕ) (w : List ℕ) → limit ≤ 2 ^ 128 → numeral (2 ^ 128) w ≡ None → numeral limit w ≡ None
+unfolding numeral
+numeral_none_small limit w l e = numeral_none limit w (λ t.
+    let b = both_true (is_numeral w) (nat_lt (digits_value 10 w) limit) t in
+    let k = true_lt (digits_value 10 w) limit b.1 in
+    go (is_numeral w && nat_lt (digits_value 10 w) (2 ^ 128)) e (and_true (is_numeral w) _ b.0 (lt_true (digits_value 10 w) (2 ^ 128) (omega (arith, k, l)))))
+  where
+    go : (b : Bool) → cond b (Some (digits_value 10 w)) None ≡ None → b ≡ true → ⊥
+    go true f t = absurd (some_none f)
+      where
+        some_none : Some (digits_value 10 w) ≡ None → ⊥
+        some_none g = let x : true ≡ false = ap (λ o. there o) g in absurd (differ x)
+          where
+            there : Option ℕ → Bool
+            there None = false
+            there (Some y) = true
+
+            differ : true ≡ false → ⊥
+            differ i = cc i
+    go false f t = cc t
+
+pub below_limit_of : (limit : ℕ) (w : List ℕ) (n : ℕ) → limit ≤ 10 ^ 64 → numeral limit w ≡ Some n → n < limit
+below_limit_of limit w n l e = (numeral_back limit w n l e).1
+
+-- the same, for the tactics
+pub numeral_small_is : (limit : ℕ) (w : List ℕ) (n : ℕ) → Some n ≡ numeral (2 ^ 128) w → n < limit → Some n ≡ numeral limit w
+numeral_small_is limit w n e h = sym (numeral_small limit w n (sym e) h)
+
+pub numeral_large_is : (limit : ℕ) (w : List ℕ) (n : ℕ) → Some n ≡ numeral (2 ^ 128) w → limit ≤ n → None ≡ numeral limit w
+numeral_large_is limit w n e h = sym (numeral_large limit w n (sym e) h)
+
+pub numeral_none_is : (limit : ℕ) (w : List ℕ) → limit < 2 ^ 128 → None ≡ numeral (2 ^ 128) w → None ≡ numeral limit w
+numeral_none_is limit w l e = sym (numeral_none_small limit w (omega (arith, l)) (sym e))

@@ -89,12 +89,12 @@ mutual
   sort_stands BoolSort h k = record { brackets = refl; sort = refl }
   sort_stands (ArrSort s) h k =
       done_stands (run (at k Wanted) (sort_word (ArrSort s))) k (ArrSort s)
-        (run_append (at (InArray ∷ k) Wanted) (sort_word s) (codes "]")
-        ∙ ends (run (at (InArray ∷ k) Wanted) (sort_word s)) (InArray ∷ k) s 93 refl (sort_stands s h (InArray ∷ k)))
+      (run_append (at (InArray ∷ k) Wanted) (sort_word s) (codes "]")
+      ∙ ends (run (at (InArray ∷ k) Wanted) (sort_word s)) (InArray ∷ k) s 93 refl (sort_stands s h (InArray ∷ k)))
   sort_stands (TupSort NoSorts) h k = record { brackets = refl; sort = refl }
   sort_stands (TupSort (SortAnd s ss)) h k =
       done_stands (run (at k Wanted) (sort_word (TupSort (SortAnd s ss)))) k (TupSort (SortAnd s ss))
-        (begun_words k s ss ∙ (tuple_stands (SortAnd s ss) h k [] ∙ ap (λ ts. at k (Done (TupSort ts))) (sorts_listed (SortAnd s ss))))
+      (begun_words k s ss ∙ (tuple_stands (SortAnd s ss) h k [] ∙ ap (λ ts. at k (Done (TupSort ts))) (sorts_listed (SortAnd s ss))))
 
   tuple_stands : (ss : Sorts) → HaveRanges ss → (k : List Open) (before : List Sort) → ReadsTuple k before ss
   tuple_stands NoSorts h k before = tt
@@ -105,7 +105,7 @@ mutual
       ap (run (at (InTuple before ∷ k) Wanted)) (append_assoc (sort_word s) (codes "," ++ sorts_word (SortAnd t ts)) (codes ")"))
       ∙ (run_append (at (InTuple before ∷ k) Wanted) (sort_word s) ((codes "," ++ sorts_word (SortAnd t ts)) ++ codes ")")
       ∙ (ap (λ st. run st (sorts_word (SortAnd t ts) ++ codes ")"))
-          (ends (run (at (InTuple before ∷ k) Wanted) (sort_word s)) (InTuple before ∷ k) s 44 refl (sort_stands s h.0 (InTuple before ∷ k)))
+      (ends (run (at (InTuple before ∷ k) Wanted) (sort_word s)) (InTuple before ∷ k) s 44 refl (sort_stands s h.0 (InTuple before ∷ k)))
       ∙ (tuple_stands (SortAnd t ts) h.1 k (before ++ s ∷ [])
       ∙ ap (λ xs. at k (Done (TupSort (sorts_in xs)))) (append_assoc before (s ∷ []) (listed (SortAnd t ts))))))
 
@@ -160,6 +160,7 @@ begin_adds k c =
   where
     P : SortState → Type 0
     P st = Adds (bracket_text k) c st
+
     byte : (d : ℕ) → nat_eq c d ≡ true → bracket_text k ++ d ∷ [] ≡ bracket_text k ++ c ∷ []
     byte d e = ap (λ x. bracket_text k ++ x ∷ []) (sym (same_nat c d e))
 
@@ -192,19 +193,19 @@ end_adds : (k : List Open) (s : Sort) (c : ℕ) → Adds (bracket_text k ++ sort
 end_adds [] s c = λ g. absurd g
 end_adds (InArray ∷ k) s c =
     by_test (Adds ((bracket_text k ++ codes "[") ++ sort_word s) c) (nat_eq c 93) _ _
-      (λ e g. regroup4 (bracket_text k) (codes "[") (sort_word s) (codes "]") ∙ ap (λ x. ((bracket_text k ++ codes "[") ++ sort_word s) ++ x ∷ []) (sym (same_nat c 93 e)))
-      (λ g. absurd g)
+    (λ e g. regroup4 (bracket_text k) (codes "[") (sort_word s) (codes "]") ∙ ap (λ x. ((bracket_text k ++ codes "[") ++ sort_word s) ++ x ∷ []) (sym (same_nat c 93 e)))
+    (λ g. absurd g)
 end_adds (InTuple ss ∷ k) s c =
     by_test (Adds ((bracket_text k ++ (codes "(" ++ commas ss)) ++ sort_word s) c) (nat_eq c 41) _ _
-      (λ e g. ap (λ w. bracket_text k ++ (codes "(" ++ (w ++ codes ")"))) (sorts_snoc ss s)
-        ∙ (regroup_last (bracket_text k) (codes "(") (commas ss) (sort_word s) (codes ")")
-        ∙ ap (λ x. ((bracket_text k ++ (codes "(" ++ commas ss)) ++ sort_word s) ++ x ∷ []) (sym (same_nat c 41 e))))
-      (by_test (Adds ((bracket_text k ++ (codes "(" ++ commas ss)) ++ sort_word s) c) (nat_eq c 44) _ _
-        (λ e g. append-nil (bracket_text k ++ (codes "(" ++ commas (ss ++ s ∷ [])))
-          ∙ (ap (λ w. bracket_text k ++ (codes "(" ++ w)) (commas_snoc ss s)
-          ∙ (regroup_more (bracket_text k) (codes "(") (commas ss) (sort_word s) (codes ",")
-          ∙ ap (λ x. ((bracket_text k ++ (codes "(" ++ commas ss)) ++ sort_word s) ++ x ∷ []) (sym (same_nat c 44 e)))))
-        (λ g. absurd g))
+    (λ e g. ap (λ w. bracket_text k ++ (codes "(" ++ (w ++ codes ")"))) (sorts_snoc ss s)
+    ∙ (regroup_last (bracket_text k) (codes "(") (commas ss) (sort_word s) (codes ")")
+    ∙ ap (λ x. ((bracket_text k ++ (codes "(" ++ commas ss)) ++ sort_word s) ++ x ∷ []) (sym (same_nat c 41 e))))
+    (by_test (Adds ((bracket_text k ++ (codes "(" ++ commas ss)) ++ sort_word s) c) (nat_eq c 44) _ _
+    (λ e g. append-nil (bracket_text k ++ (codes "(" ++ commas (ss ++ s ∷ [])))
+    ∙ (ap (λ w. bracket_text k ++ (codes "(" ++ w)) (commas_snoc ss s)
+    ∙ (regroup_more (bracket_text k) (codes "(") (commas ss) (sort_word s) (codes ",")
+    ∙ ap (λ x. ((bracket_text k ++ (codes "(" ++ commas ss)) ++ sort_word s) ++ x ∷ []) (sym (same_nat c 44 e)))))
+    (λ g. absurd g))
 
 digits_add : (k : List Open) (g : Bool) (ds : Word) (c : ℕ) (o : Option ℕ) → numeral (2 ^ 16) ds ≡ o → Adds (bracket_text k ++ (cond g (codes "i") (codes "u") ++ ds)) c (end_of k (bits_sort g o) c)
 digits_add k g ds c None e h = absurd h
@@ -216,12 +217,12 @@ step_adds : (k : List Open) (r : Reading) (c : ℕ) → Adds (shown (at k r)) c 
 step_adds k Wanted c = λ g. begin_adds k c g ∙ ap (λ w. w ++ c ∷ []) (sym (append-nil (bracket_text k)))
 step_adds k Begun c =
     by_test (Adds (bracket_text k ++ codes "(") c) (nat_eq c 41) _ _
-      (λ e g. sym (append_assoc (bracket_text k) (codes "(") (codes ")")) ∙ ap (λ x. (bracket_text k ++ codes "(") ++ x ∷ []) (sym (same_nat c 41 e)))
-      (begin_adds (InTuple [] ∷ k) c)
+    (λ e g. sym (append_assoc (bracket_text k) (codes "(") (codes ")")) ∙ ap (λ x. (bracket_text k ++ codes "(") ++ x ∷ []) (sym (same_nat c 41 e)))
+    (begin_adds (InTuple [] ∷ k) c)
 step_adds k (Digits g ds) c =
     by_test (Adds (bracket_text k ++ (cond g (codes "i") (codes "u") ++ ds)) c) (is_ascii_digit c) _ _
-      (λ e h. regroup3 (bracket_text k) (cond g (codes "i") (codes "u")) ds (c ∷ []))
-      (digits_add k g ds c (numeral (2 ^ 16) ds) refl)
+    (λ e h. regroup3 (bracket_text k) (cond g (codes "i") (codes "u")) ds (c ∷ []))
+    (digits_add k g ds c (numeral (2 ^ 16) ds) refl)
 step_adds k (Done s) c = end_adds k s c
 step_adds k Refused c = λ g. absurd g
 
@@ -250,11 +251,13 @@ word_of_sort w s e = go (run (at [] Wanted) w).brackets (run (at [] Wanted) w).r
     text r b f g =
         ap₂ (λ k q. bracket_text k ++ reading_text q) (sym b) (sym f)
         ∙ run_adds (at [] Wanted) w (subst GoesOn (sym f) g)
+
     digits : (g : Bool) (ds : Word) (o : Option ℕ) → numeral (2 ^ 16) ds ≡ o → bits_sort g o ≡ Some s → cond g (codes "i") (codes "u") ++ ds ≡ w → sort_word s ≡ w
     digits g ds None n i t = cc i
     digits g ds (Some n) m i t =
         let is : NumSort (Bits g n) ≡ s = cc i in
         ap sort_word (sym is) ∙ (ap (λ x. cond g (codes "i") (codes "u") ++ x) (numeral_back (2 ^ 16) ds n (lit≤ tt) m).0 ∙ t)
+
     go : (k : List Open) (r : Reading) → (run (at [] Wanted) w).brackets ≡ k → (run (at [] Wanted) w).reading ≡ r → none_open k (sort_of_reading r) ≡ Some s → sort_word s ≡ w
     go (o ∷ k) r b f i = cc i
     go [] Wanted b f i = cc i
@@ -304,7 +307,7 @@ end_ranges [] s c h r = (tt, tt)
 end_ranges (InArray ∷ k) s c h r = by_test Ranges (nat_eq c 93) _ _ (λ e. (h, r)) (h, tt)
 end_ranges (InTuple ss ∷ k) s c h r =
     by_test Ranges (nat_eq c 41) _ _ (λ e. (h.1, all_in (ss ++ s ∷ []) (all_snoc ss s h.0 r)))
-      (by_test Ranges (nat_eq c 44) _ _ (λ e. ((all_snoc ss s h.0 r, h.1), tt)) (h.1, tt))
+    (by_test Ranges (nat_eq c 44) _ _ (λ e. ((all_snoc ss s h.0 r, h.1), tt)) (h.1, tt))
 
 digits_ranges : (k : List Open) (g : Bool) (ds : Word) (c : ℕ) (o : Option ℕ) → OpenRanges k → numeral (2 ^ 16) ds ≡ o → Ranges (end_of k (bits_sort g o) c)
 digits_ranges k g ds c None h e = (h, tt)
@@ -330,6 +333,7 @@ ranges_of_sort w s e = go (run (at [] Wanted) w).brackets (run (at [] Wanted) w)
     digits g ds (Some n) m i =
         let is : NumSort (Bits g n) ≡ s = cc i in
         subst HasRanges is (numeral_back (2 ^ 16) ds n (lit≤ tt) m).1
+
     go : (k : List Open) (r : Reading) → ReadingRanges r → none_open k (sort_of_reading r) ≡ Some s → HasRanges s
     go (o ∷ k) r h i = cc i
     go [] Wanted h i = cc i

@@ -16,10 +16,15 @@ None >>= f = None
 
 -- ---- numbers
 
+-- the first byte is a digit, and no 0 before others
+abbrev pub starts_plainly : Word → Bool
+starts_plainly [] = false
+starts_plainly (c ∷ cs) = is_ascii_digit c && (not (nat_eq c 48) || nat_eq (length cs) 0)
+
 -- digits without a 0 before others
 abbrev pub is_numeral : Word → Bool
 is_numeral [] = false
-is_numeral (c ∷ cs) = all_ascii_digits (c ∷ cs) && (not (nat_eq c 48) || nat_eq (length cs) 0)
+is_numeral (c ∷ cs) = all_ascii_digits (c ∷ cs) && starts_plainly (c ∷ cs)
 
 -- the number of a word, below a limit
 unfoldable pub numeral : ℕ → Word → Option ℕ
@@ -32,15 +37,31 @@ abbrev pub negated : ℕ → Option ℤ
 negated zero = None
 negated (suc n) = Some (negsuc n)
 
+abbrev pub negative : Word → Option ℤ
+negative ds = numeral (2 ^ 127 + 1) ds >>= negated
+
+abbrev pub positive : Word → Option ℤ
+positive ds = numeral (2 ^ 127) ds >>= (λ n. Some (pos n))
+
 unfoldable pub integer : Word → Option ℤ
 integer [] = None
-integer (c ∷ cs) = cond (nat_eq c 45) (numeral (2 ^ 127 + 1) cs >>= negated) (numeral (2 ^ 127) (c ∷ cs) >>= (λ n. Some (pos n)))
+integer (c ∷ cs) = cond (nat_eq c 45) (negative cs) (positive (c ∷ cs))
+
+abbrev pub sign_byte : ℕ → Option Bool
+sign_byte c = cond (nat_eq c 43) (Some true) (cond (nat_eq c 45) (Some false) None)
 
 unfoldable pub sign : Word → Option Bool
-sign w = cond (bytes_eq w (codes "+")) (Some true) (cond (bytes_eq w (codes "-")) (Some false) None)
+sign [] = None
+sign (c ∷ []) = sign_byte c
+sign (c ∷ d ∷ cs) = None
+
+abbrev pub flag_byte : ℕ → Option Bool
+flag_byte c = cond (nat_eq c 49) (Some true) (cond (nat_eq c 48) (Some false) None)
 
 unfoldable pub flag : Word → Option Bool
-flag w = cond (bytes_eq w (codes "1")) (Some true) (cond (bytes_eq w (codes "0")) (Some false) None)
+flag [] = None
+flag (c ∷ []) = flag_byte c
+flag (c ∷ d ∷ cs) = None
 
 -- ---- sorts: one byte after another, with the brackets that are open
 

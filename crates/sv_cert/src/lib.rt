@@ -1,7 +1,7 @@
-//! Logs as data, and their texts both ways.
+//! Logs as data, and the format of their text.
 //!
-//! Promises: `log_text` writes the text of a log, and `read_log` reads the log of a text, or tells the first line that is no entry.
-//! Stands on: `sv_log` (what a log is), `sv_term` (sorts), `sqlite_items`, `thiserror`.
+//! Promises: a text has one log, or one first faulty line (`laws`). The calls that write and read are still to come.
+//! Stands on: `sv_log` (what a log is), `sv_term` (sorts), `sv_num`, `sqlite_items`.
 //! Read first: `specs/LogText.antt`.
 #![tactic(auto)]
 
