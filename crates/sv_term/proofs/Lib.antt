@@ -12,4 +12,10 @@ pub mod NodeTrees
 pub mod BankGrowth
 pub mod NodeEquality
 pub mod Keyed
-pub mod Examples
+pub mod Wide
+pub mod Distinct
+pub mod SortNumbers
+pub mod KindTests
+pub mod Cloned
+pub mod BankFits
+pub mod WorkedValues

@@ -1,12 +1,12 @@
 -- The derived tests of equality of nodes tell what they say.
-use Rattle.std.proofs.Common.{ℕ, Bool, true, false, ◌&&◌, nat_eq, List, [], ◌∷◌, ◌≡◌, refl, sym, ap, ap₂, ◌∙◌, subst}
+use Rattle.std.proofs.Common.{ℕ, Bool, true, false, ◌&&◌, nat_eq, List, [], ◌∷◌, ◌≡◌, map, slice_get, Some, refl, sym, ap, ap₂, ◌∙◌, subst}
 use Rattle.std.specs.Bool.{Decides}
 use Rattle.std.specs.Ordering.{on}
 use Rattle.std.specs.Cmp.Lexicographic.{pointwise}
 use Rattle.sv_term.specs.Sorts.{same_bool}
 use Rattle.sv_term.specs.Sorts as d
 use Rattle.sv_term.specs.Ids.{id_decides}
-use Rattle.sv_term.specs.Banks.{SortRow, NumRow, BoolRow, ArrRow, TupRow, range_of, row_of}
+use Rattle.sv_term.specs.Banks.{StandsIn, SortRow, NumRow, BoolRow, ArrRow, TupRow, range_of, row_of}
 use Rattle.sv_term.specs.declared.node.SortId.{SortId}
 use Rattle.sv_term.specs.declared.node.TermId.{TermId}
 use Rattle.sv_term.specs.declared.node.Range as range
@@ -18,6 +18,7 @@ use Rattle.sv_term.specs.declared.node.Node.TheVariants as n
 use Rattle.sv_term.specs.contracts.node.NodePartialEq.TheImpl.{eq-value}
 use Rattle.sv_term.specs.contracts.node.SortNodePartialEq.TheImpl as sorts
 use Rattle.sv_term.specs.contracts.node.RangePartialEq.TheImpl as ranges
+use Rattle.sv_term.proofs.Keyed.{get_map}
 use Rattle.sv_term.proofs.Same.{both_true, and_true, same_nat, nat_same, same_bool_is, bool_self}
 
 pub id_is : (j k : TermId) → nat_eq j.0 k.0 ≡ true → j ≡ k
@@ -145,3 +146,19 @@ sort_node_found s.Bool s.Bool e = refl
 sort_node_found (s.Arr j) (s.Arr k) e = let f : j ≡ k = cc e in nat_same j.0 k.0 (ap (λ z. z.0) f)
 sort_node_found (s.Tup js) (s.Tup ks) e = let f : js.items ≡ ks.items = cc e in subst (λ z. pointwise (on (λ (k : SortId). k.0) nat_eq) js.items z ≡ true) f (sort_ids_self js.items)
 sort_node_found _ _ e = cc e
+
+-- ---- what is not there is found equal to nothing
+
+pub absent_rows : (ks : List SortNode) (y : SortNode) → (StandsIn (map row_of ks) (row_of y) → ⊥) → (j : ℕ) (x : SortNode) → slice_get ks j ≡ Some x → (sorts.eq-value).it y x ≡ false
+absent_rows ks y h j x a = go ((sorts.eq-value).it y x) refl
+  where
+    go : (b : Bool) → (sorts.eq-value).it y x ≡ b → b ≡ false
+    go true e = absurd (h (j, get_map row_of ks j x a ∙ ap Some (sym (sort_node_is y x e))))
+    go false e = refl
+
+pub absent_keys : (ks : List Node) (y : Node) → (StandsIn ks y → ⊥) → (j : ℕ) (x : Node) → slice_get ks j ≡ Some x → (eq-value).it y x ≡ false
+absent_keys ks y h j x a = go ((eq-value).it y x) refl
+  where
+    go : (b : Bool) → (eq-value).it y x ≡ b → b ≡ false
+    go true e = absurd (h (j, a ∙ ap Some (sym (node_is y x e))))
+    go false e = refl

@@ -6,6 +6,8 @@ pub mod FactRules
 pub mod FactRuleTest
 pub mod TermLaws
 pub mod ModelMaking
+pub mod WorkedValues
 pub mod Banks
+pub mod NodeKinds
 pub mod Ids
 pub mod Book

@@ -2,6 +2,7 @@ ghost use Rattle.sv_term.specs.TermLaws.{ValuesAreOfTheirSort, ArraysAreTheirRea
 ghost use Rattle.sv_term.specs.FactRules.{InstancesAreTrue};
 ghost use Rattle.sv_term.specs.FactRuleTest.{TestIsExact, RulesAreTrue};
 ghost use Rattle.sv_term.specs.ModelMaking.{ModelsExtend, GatheredReads, ArraysAreGathered, ValuesAgree};
+ghost use Rattle.sv_term.specs.WorkedValues.{ValuesAreWorked, TestsOfTerms};
 
 /// The value of a term that fits is of its sort.
 pub fn values_are_of_their_sort()
@@ -56,4 +57,14 @@ pub fn arrays_are_gathered()
 /// A value depends on the variables of the term alone.
 pub fn values_agree()
     ensures { ValuesAgree }
+{}
+
+/// The values of terms at edges are those that were worked out by hand.
+pub fn values_are_worked()
+    ensures { ValuesAreWorked }
+{}
+
+/// What fits, what is plain and what is by a rule, for terms that were looked at by hand.
+pub fn tests_are_worked()
+    ensures { TestsOfTerms }
 {}

@@ -1,7 +1,9 @@
-//! Sorts and terms, what they mean, and the rules by which facts about them follow.
+//! Sorts and terms, what they mean, the rules by which facts about them follow, and a bank that keeps terms by number.
 //!
-//! Promises: a new book has no rules, and making one takes no memory.
-//! Stands on: std alone.
+//! Promises: each rule is true in every model, and the test of a rule says what the table says; a bank gives each node one number, and
+//! numbers that were given keep what they stand for; `fits` is true exactly where a node may be added; a new book has no rules.
+//! Stands on: `sv_text`, `indexmap`, `smallvec`.
+//! Read first: `specs/Terms.antt`, `specs/Models.antt`, `specs/Banks.antt`; the tables of nodes and rules stand in the README.
 #![tactic(auto)]
 
 mod args;
@@ -9,18 +11,9 @@ mod bank;
 mod book;
 pub mod laws;
 mod node;
+mod sorting;
 
 pub use args::Args;
 pub use bank::Bank;
 pub use book::RuleBook;
 pub use node::{Node, Range, SortId, SortNode, TermId};
-
-#[cfg(test)]
-mod tests {
-    use super::*;
-
-    #[test]
-    fn a_book_is_made(rt: HostRuntime) {
-        let _book = RuleBook::new(rt.alloc());
-    }
-}

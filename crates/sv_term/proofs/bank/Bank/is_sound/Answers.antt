@@ -1,0 +1,20 @@
+use Rattle.std.proofs.Common.{subst, ◌≡◌, ◌↔◌, true}
+use Rattle.sv_term.specs.declared.node.SortId.{SortId}
+use Rattle.sv_term.specs.declared.node.TermId.{TermId}
+use Rattle.sv_term.specs.declared.node.Node.{Node}
+use Rattle.sv_term.specs.Terms.{fits}
+use Rattle.sv_term.specs.Banks.{term, sort, tree, IsTerm, IsSort, IsNamed, Fits, IsSound}
+use Rattle.sv_term.proofs.BankFits.{terms_fit, fits_is}
+use Rattle.sv_term.proofs.Distinct.{sorts_apart}
+use Rattle.sv_term.proofs.bank.Bank.is_sound.Goals as goal
+
+pub returns : goal.returns
+returns c =
+    let sound : IsSound c.args.self.now = subst IsSound c.self.view_is c.self.invariant.0 in
+    record {
+      terms = terms_fit c.args.self.now sound;
+      nodes = fits_is c.args.self.now sound;
+      sorts_differ = sound.sorts_differ;
+      nodes_differ = sound.nodes_differ;
+      one_number = sorts_apart c.args.self.now sound;
+    }

@@ -1,0 +1,97 @@
+ghost use Rattle.std.specs.Prelude.{◌≡◌, IfOk, cond};
+ghost use Rattle.sv_term.specs.declared.node.SortId.{SortId};
+ghost use Rattle.sv_term.specs.Sorts.{NumSort, BoolSort, Any, same_sort, element, parts, sort_at};
+ghost use Rattle.sv_term.specs.Terms.{sort_of};
+ghost use Rattle.sv_term.specs.Banks.{term, tree, IsTerm, IsArray, HasPart, Fits, Keeps, IsKind};
+
+use crate::bank::Bank;
+use crate::node::{Node, Range, SortId, SortNode, TermId};
+use sv_text::NoMemory;
+
+impl Bank {
+    /// The sort of a node that fits. It may be new in the bank.
+    pub(crate) fn sort_for(&mut self, node: &Node) -> Result<SortId, NoMemory>
+        requires { Fits self.old node.now }
+        ensures kept { Keeps self.old self.new }
+        ensures nodes { self.new.nodes ≡ self.old.nodes }
+        ensures kind { IfOk result (λ k. IsKind self.new k (sort_of (tree self.old node.now))) }
+    {
+        match node {
+            Node::Lit(_, _) => Ok(self.number_sort()?),
+            Node::Truth(_) => Ok(self.truth_sort()?),
+            Node::Var(_, sort) => Ok(*sort),
+            Node::Add(_, _) => Ok(self.number_sort()?),
+            Node::Sub(_, _) => Ok(self.number_sort()?),
+            Node::Mul(_, _) => Ok(self.number_sort()?),
+            Node::Div(_, _) => Ok(self.number_sort()?),
+            Node::Mod(_, _) => Ok(self.number_sort()?),
+            Node::Wrap(signed, bits, _) => Ok(self.sort(SortNode::Num(Range::Bits(
+                *signed, *bits,
+            )))?),
+            Node::Le(_, _) => Ok(self.truth_sort()?),
+            Node::Eq(_, _) => Ok(self.truth_sort()?),
+            Node::Not(_) => Ok(self.truth_sort()?),
+            Node::And(_, _) => Ok(self.truth_sort()?),
+            Node::Or(_, _) => Ok(self.truth_sort()?),
+            Node::Ite(_, a, b) => Ok(self.joined_sort(*a, *b)?),
+            Node::Sel(a, _) => Ok(self.element_of(*a)),
+            Node::Sto(a, _, _) => Ok(self.sort_of(*a)),
+            Node::Const(sort, _) => Ok(*sort),
+            Node::Mix(_, a, _) => Ok(self.sort_of(*a)),
+            Node::Tup(sort, _) => Ok(*sort),
+            Node::Get(k, a) => Ok(self.part_of(*k, *a)),
+            Node::Sum(_) => Ok(self.number_sort()?),
+        }
+    }
+
+    fn number_sort(&mut self) -> Result<SortId, NoMemory>
+        ensures kept { Keeps self.old self.new }
+        ensures nodes { self.new.nodes ≡ self.old.nodes }
+        ensures kind { IfOk result (λ k. IsKind self.new k (NumSort Any)) }
+    {
+        Ok(self.sort(SortNode::Num(Range::Any))?)
+    }
+
+    fn truth_sort(&mut self) -> Result<SortId, NoMemory>
+        ensures kept { Keeps self.old self.new }
+        ensures nodes { self.new.nodes ≡ self.old.nodes }
+        ensures kind { IfOk result (λ k. IsKind self.new k BoolSort) }
+    {
+        Ok(self.sort(SortNode::Bool)?)
+    }
+
+    /// The sort of a choice: that of both terms where it is one, and else that of all numbers.
+    fn joined_sort(&mut self, a: TermId, b: TermId) -> Result<SortId, NoMemory>
+        requires left { IsTerm self.old a }
+        requires right { IsTerm self.old b }
+        ensures kept { Keeps self.old self.new }
+        ensures nodes { self.new.nodes ≡ self.old.nodes }
+        ensures kind { IfOk result (λ k. IsKind self.new k (cond (same_sort (sort_of (term self.old a)) (sort_of (term self.old b))) (sort_of (term self.old a)) (NumSort Any))) }
+    {
+        let left = self.sort_of(a);
+        if left == self.sort_of(b) {
+            return Ok(left);
+        }
+        Ok(self.number_sort()?)
+    }
+
+    fn element_of(&self, a: TermId) -> SortId
+        requires { IsArray self.now a }
+        ensures { IsKind self.now result (element (sort_of (term self.now a))) }
+    {
+        match self.sort_node(self.sort_of(a)) {
+            SortNode::Arr(element) => *element,
+            _ => unreachable!(),
+        }
+    }
+
+    fn part_of(&self, k: usize, a: TermId) -> SortId
+        requires { HasPart self.now k a }
+        ensures { IsKind self.now result (sort_at k (parts (sort_of (term self.now a)))) }
+    {
+        match self.sort_node(self.sort_of(a)) {
+            SortNode::Tup(parts) => parts[k],
+            _ => unreachable!(),
+        }
+    }
+}
