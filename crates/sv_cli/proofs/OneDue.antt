@@ -8,7 +8,7 @@ use Rattle.sv_cli.specs.Due.IsDue.{IsError, IsReported}
 use Rattle.sv_cli.specs.Due.IsRefused.{IsLong, HasChar, IsUnclosed, HasMany, HasOut, HasDeep, HasNoTree, IsUnbuilt}
 use Rattle.sv_cli.specs.Refusals.{error_text}
 use Rattle.sv_cli.specs.Report.{Reports}
-use Rattle.sv_cli.specs.Trees.{HasTree, IsTreeless, BeginsTree, place_behind}
+use Rattle.sv_cli.specs.TextTrees.{HasTree, IsTreeless, BeginsTree, place_behind}
 use Rattle.sv_cli.specs.declared.ended.Ended.{Ended}
 use Rattle.sv_cli.specs.declared.ended.Ended.TheVariants.{Refused}
 use Rattle.sv_cli.specs.declared.refusal.Refusal.{Refusal}

@@ -3,14 +3,14 @@ use Rattle.std.proofs.Common.{◌≡◌, ℕ, List, [], ◌∷◌, Some, None, O
 use Rattle.std.specs.Result.{IsErrOf}
 use Rattle.sv_cli.specs.Due.{HasTokens, HasPlainTokens, HasForm, Means, IsRefused}
 use Rattle.sv_cli.specs.Due.IsRefused.{IsLong, HasChar, IsUnclosed, HasMany, HasOut, HasDeep, HasNoTree, IsUnbuilt}
-use Rattle.sv_cli.specs.Trees.{HasTree, IsTreeless, BeginsTree, place_behind}
+use Rattle.sv_cli.specs.TextTrees.{HasTree, IsTreeless, BeginsTree, place_behind}
 use Rattle.sv_cli.specs.Unread.{GivesNoTree, GivesRefusal, IsUnread, from_lex, from_form}
 use Rattle.sv_cli.specs.declared.due.Unread.{Unread}
 use Rattle.sv_cli.specs.declared.due.Unread.TheVariants as unread
 use Rattle.sv_cli.specs.declared.refusal.Refusal.{Refusal}
 use Rattle.sv_cli.specs.declared.refusal.Refusal.TheVariants as refusal
 use Rattle.sv_first_form.specs.FirstForm.{StandsFor}
-use Rattle.sv_first_form.specs.Symbols.{Symbol, symbol, symbol_of}
+use Rattle.sv_first_form.specs.FormSymbols.{Symbol, symbol, symbol_of}
 use Rattle.sv_first_form.specs.declared.contract.Contract.{Contract}
 use Rattle.sv_first_form.specs.declared.form_error.FormError.{FormError}
 use Rattle.sv_first_form.specs.declared.form_error.FormError.TheVariants as form

@@ -1,4 +1,4 @@
--- What the program's answer says of the source and the sink.
+-- Believed: what the program's answer says of the source and the sink. Hold it against docs/report.md on the exit status.
 use Rattle.std.specs.Prelude.{◌≡◌, ℕ, ◌+◌, ◌≤◌, ◌⊎◌, List, [], length, drop, map, string_bytes, Some, None, String, Vec}
 use Rattle.std.specs.declared.option.Option.{Option}
 use Rattle.std.specs.declared.alloc.Global.{Global}

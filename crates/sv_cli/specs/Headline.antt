@@ -1,4 +1,4 @@
--- The headline: each line `C: holds` that the program writes is true of every history of the contract C.
+-- Believed: each line `C: holds` that the program writes is true of every history of the contract C. Hold it against docs/promises.md.
 use Rattle.std.specs.Prelude.{◌≡◌, ◌==◌, ℕ, true, not, List, [], ◌∷◌, ◌++◌, codes, Some}
 use Rattle.std.specs.List.{list_all}
 use Rattle.std.specs.declared.option.Option.{Option}

@@ -1,11 +1,11 @@
 pub mod Status
 pub mod Report
 pub mod Refusals
-pub mod Trees
+pub mod TextTrees
 pub mod Due
 pub mod Moved
 pub mod Answered
 pub mod Headline
-pub mod Laws
+pub mod DueLaw
 pub mod Unread
 pub mod Moving

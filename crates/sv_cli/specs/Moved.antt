@@ -1,4 +1,4 @@
--- What was read from a source and written to a sink, and what each call was given, where they tell it.
+-- Believed: what was read from a source and written to a sink, and what each call was given, where they tell it. Hold it against docs/architecture.md on sources and sinks.
 use Rattle.std.specs.Prelude.{◌≡◌, ℕ, ◌-◌, ◌<◌, List, [], ◌∷◌, ◌++◌, length, take, drop, min, Some, None}
 use Rattle.std.specs.declared.option.Option.{Option}
 use Rattle.sv_io.specs.Calls.{Taking, Putting}

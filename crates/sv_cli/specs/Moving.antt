@@ -1,4 +1,4 @@
--- How far reading and writing have come. These serve the proof: they are the invariants of the two loops.
+-- Serves the proof: how far reading and writing have come, the invariants of the two loops.
 use Rattle.std.specs.Prelude.{◌≡◌, ℕ, ◌+◌, List, [], ◌∷◌, ◌++◌, drop, Some, None}
 use Rattle.std.specs.declared.option.Option.{Option}
 use Rattle.sv_cli.specs.Moved.{AreRooms, ArePieces}

@@ -1,4 +1,4 @@
--- The error lines.
+-- Believed: the error lines. Hold it against docs/report.md.
 use Rattle.std.specs.Prelude.{ℕ, List, ◌++◌, codes}
 use Rattle.std.specs.Fmt.{decimal}
 use Rattle.sv_cli.specs.declared.refusal.Refusal.{Refusal}

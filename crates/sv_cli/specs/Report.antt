@@ -1,4 +1,4 @@
--- The report: a line for each that is judged, and a last line for the contract.
+-- Believed: the report, a line for each that is judged and a last line for the contract. Hold it against docs/report.md.
 use Rattle.std.specs.Prelude.{◌≡◌, ℕ, Bool, List, [], ◌∷◌, ◌++◌, codes, if◌then◌else◌}
 use Rattle.std.specs.List.{list_all}
 use Rattle.sv_cli.specs.declared.ended.Ended.{Ended}

@@ -1,4 +1,4 @@
--- The exit status of each way to end.
+-- Believed: the exit status of each way to end. Hold it against docs/report.md.
 use Rattle.std.specs.Prelude.{ℕ}
 use Rattle.sv_cli.specs.declared.ended.Ended.{Ended}
 use Rattle.sv_cli.specs.declared.ended.Ended.TheVariants.{Holds, Unheld, Refused, Usage, ReadFault, WriteFault, NoMemory}

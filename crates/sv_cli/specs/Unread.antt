@@ -1,7 +1,7 @@
--- Why a text isn't read as a contract. It serves the proof of `due`.
+-- Serves the proof: why a text isn't read as a contract.
 use Rattle.std.specs.Prelude.{◌≡◌, ℕ, List, Option, Some, None}
 use Rattle.sv_cli.specs.Due.{IsRefused}
-use Rattle.sv_cli.specs.Trees.{IsTreeless, BeginsTree, place_behind}
+use Rattle.sv_cli.specs.TextTrees.{IsTreeless, BeginsTree, place_behind}
 use Rattle.sv_cli.specs.declared.due.Unread.{Unread}
 use Rattle.sv_cli.specs.declared.due.Unread.TheVariants.{Refused, NoMemory}
 use Rattle.sv_cli.specs.declared.refusal.Refusal.{Refusal}

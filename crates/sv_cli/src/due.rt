@@ -1,7 +1,7 @@
 ghost use Rattle.std.specs.Prelude.{◌≡◌, IfOk, MatchResult};
 ghost use Rattle.sv_cli.specs.Due.{IsDue, Means};
 ghost use Rattle.sv_cli.specs.Report.{Reports};
-ghost use Rattle.sv_cli.specs.Trees.{HasTree};
+ghost use Rattle.sv_cli.specs.TextTrees.{HasTree};
 ghost use Rattle.sv_cli.specs.Unread.{GivesNoTree, GivesRefusal, IsUnread};
 ghost use Rattle.sv_first_form.specs.FirstForm.{IsContract};
 ghost use Rattle.sv_lex.specs.Limits.{HasNo, IsDeep};

@@ -5,9 +5,9 @@ use Rattle.std.proofs.lemmas.List.Elements.{All-get_or}
 use Rattle.sv_first_form.proofs.Repeats.{GoesOn}
 use Rattle.sv_first_form.proofs.Sequences.{IsLike, like_first, like_fails, Precedes, same_kind, same_text}
 use Rattle.sv_first_form.specs.FirstForm.{IsName, reserved, mark, word, name_at, act_tokens, IsAct}
-use Rattle.sv_first_form.specs.Parts.{AreNames, variable_part, value_part, equation_part, IsAssignment, assignment_part, requirement_part, act_part, EndsActs}
-use Rattle.sv_first_form.specs.Reading.{Part, IsFirst, Fails, ReadsPart, Begins, exact, both}
-use Rattle.sv_first_form.specs.Symbols.{Symbol, symbol_with}
+use Rattle.sv_first_form.specs.FormParts.{AreNames, variable_part, value_part, equation_part, IsAssignment, assignment_part, requirement_part, act_part, EndsActs}
+use Rattle.sv_first_form.specs.FormReading.{Part, IsFirst, Fails, ReadsPart, Begins, exact, both}
+use Rattle.sv_first_form.specs.FormSymbols.{Symbol, symbol_with}
 use Rattle.sv_first_form.specs.declared.contract.Act.{Act}
 use Rattle.sv_first_form.specs.declared.contract.Act.TheVariants.{Assign, Require}
 use Rattle.sv_first_form.specs.declared.contract.Equation.{Equation}

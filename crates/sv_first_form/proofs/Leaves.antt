@@ -6,9 +6,9 @@ use Rattle.std.proofs.lemmas.Fmt.{decimal_injective}
 use Rattle.std.proofs.lemmas.List.Elements.{Contains-get_or}
 use Rattle.std.proofs.lemmas.Option.{slice_get_within, unwrap_or-slice_get}
 use Rattle.sv_first_form.specs.FirstForm.{name_at}
-use Rattle.sv_first_form.specs.Parts.{AreNames, variable_part, number_part}
-use Rattle.sv_first_form.specs.Reading.{IsFirst, Fails, is_unbuilt, no_memory, any_text}
-use Rattle.sv_first_form.specs.Symbols.{Symbol, symbol_with}
+use Rattle.sv_first_form.specs.FormParts.{AreNames, variable_part, number_part}
+use Rattle.sv_first_form.specs.FormReading.{IsFirst, Fails, is_unbuilt, no_memory, any_text}
+use Rattle.sv_first_form.specs.FormSymbols.{Symbol, symbol_with}
 use Rattle.sv_first_form.specs.declared.form_error.FormError.{FormError}
 use Rattle.sv_first_form.specs.declared.form_error.FormError.TheVariants.{Unbuilt}
 use Rattle.sv_lex.specs.declared.tok.Tok.TheVariants.{Word, Number}

@@ -5,7 +5,7 @@ use Rattle.std.proofs.lemmas.List.Elements.{All-push, Contains-get_or}
 use Rattle.std.proofs.lemmas.List.Quantifiers.{all_pairs_push}
 use Rattle.std.proofs.lemmas.Option.{slice_get_within, get_or_from_slice_get}
 use Rattle.sv_first_form.specs.FirstForm.{IsName}
-use Rattle.sv_first_form.specs.Parts.{AreNames, FailsToName, is_refused, has_no_memory}
+use Rattle.sv_first_form.specs.FormParts.{AreNames, FailsToName, is_refused, has_no_memory}
 use Rattle.sv_first_form.specs.declared.form_error.FormError.{FormError}
 
 -- no names are names that differ

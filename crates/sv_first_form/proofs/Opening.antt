@@ -1,8 +1,8 @@
 -- Tokens that are cut before the first word `contract`.
 use Rattle.std.proofs.Common.{◌≡◌, ℕ, suc, ◌<◌, ◌≤◌, List, ◌∷◌, ◌++◌, Contains, length, map, take, drop, get_or, sym, ap, subst, ◌∙◌, drop-cons}
 use Rattle.std.proofs.lemmas.List.{map-append, take-append-drop, take_all}
-use Rattle.sv_first_form.specs.Parts.{IsOpened, contract_word}
-use Rattle.sv_first_form.specs.Symbols.{Symbol, symbol}
+use Rattle.sv_first_form.specs.FormParts.{IsOpened, contract_word}
+use Rattle.sv_first_form.specs.FormSymbols.{Symbol, symbol}
 use Rattle.sv_lex.specs.declared.token.Token.{Token}
 
 module _ (tokens : List Token) (at : ℕ) (absent : Contains (map symbol (take at tokens)) contract_word → ⊥) where

@@ -4,8 +4,8 @@ use Rattle.std.specs.Prelude.{All}
 use Rattle.std.specs.List.{flat_map}
 use Rattle.std.proofs.lemmas.List.{append_assoc, append-nil, flat_map_more}
 use Rattle.std.proofs.lemmas.List.Elements.{All-nil, All-head, All-tail, All-push}
-use Rattle.sv_first_form.specs.Reading.{Part, IsFirst, HasNone, IsSofar, parts, Fails, is_unbuilt, no_memory}
-use Rattle.sv_first_form.specs.Symbols.{Symbol}
+use Rattle.sv_first_form.specs.FormReading.{Part, IsFirst, HasNone, IsSofar, parts, Fails, is_unbuilt, no_memory}
+use Rattle.sv_first_form.specs.FormSymbols.{Symbol}
 use Rattle.sv_first_form.specs.declared.form_error.FormError.{FormError}
 
 -- such a part may be followed by anything, and doesn't stop a loop over such parts

@@ -2,8 +2,8 @@
 use Rattle.std.proofs.Common.{◌≡◌, ℕ, List, [], ◌∷◌, ◌++◌, ◌<◌, ◌≤◌, arith, refl, sym, ap, ◌∙◌, ◌-◌, length, take, drop, map, Some, None, slice_get}
 use Rattle.std.proofs.lemmas.Option.{none-some}
 use Rattle.std.proofs.lemmas.List.{append_assoc, take_rest}
-use Rattle.sv_first_form.specs.Reading.{Part, IsFirst, Fails, is_unbuilt, no_memory, Begins, BeginsKind, exact, any_text, both, at_most}
-use Rattle.sv_first_form.specs.Symbols.{Symbol, symbol, symbol_with}
+use Rattle.sv_first_form.specs.FormReading.{Part, IsFirst, Fails, is_unbuilt, no_memory, Begins, BeginsKind, exact, any_text, both, at_most}
+use Rattle.sv_first_form.specs.FormSymbols.{Symbol, symbol, symbol_with}
 use Rattle.sv_first_form.specs.declared.form_error.FormError.{FormError}
 use Rattle.sv_first_form.specs.declared.form_error.FormError.TheVariants.{Unbuilt, NoMemory}
 use Rattle.sv_lex.specs.declared.tok.Tok.{Tok}

@@ -3,9 +3,9 @@ use Rattle.std.proofs.Common.{◌≡◌, List, [], sym, ◌∙◌, refl, Result,
 use Rattle.std.proofs.lemmas.List.{append-nil}
 use Rattle.std.specs.Result.{IsErrOf}
 use Rattle.sv_first_form.specs.FirstForm.{StandsFor, contract_tokens}
-use Rattle.sv_first_form.specs.Parts.{contract_part}
-use Rattle.sv_first_form.specs.Reading.{IsFirst, Fails, ReadsPart, is_unbuilt, no_memory}
-use Rattle.sv_first_form.specs.Symbols.{Symbol}
+use Rattle.sv_first_form.specs.FormParts.{contract_part}
+use Rattle.sv_first_form.specs.FormReading.{IsFirst, Fails, ReadsPart, is_unbuilt, no_memory}
+use Rattle.sv_first_form.specs.FormSymbols.{Symbol}
 use Rattle.sv_first_form.specs.declared.contract.Contract.{Contract}
 use Rattle.sv_first_form.specs.declared.form_error.FormError.{FormError}
 use Rattle.sv_first_form.specs.declared.form_error.FormError.TheVariants.{Unbuilt}

@@ -3,9 +3,9 @@ use Rattle.std.proofs.Common.{◌≡◌, ℕ, ◌<◌, ◌^◌, List, [], ◌∷
 use Rattle.sv_first_form.proofs.Repeats.{GoesOn}
 use Rattle.sv_first_form.proofs.Sequences.{IsLike, like_first, like_fails, Precedes, both_first, both_fails_late, same_kind}
 use Rattle.sv_first_form.specs.FirstForm.{mark, item_token, sum_tokens, IsItem, IsSide, IsValue, name_at, word}
-use Rattle.sv_first_form.specs.Parts.{variable_part, number_part, item_part, further_part, side_part, value_part, equation_part, EndsSum, further_items}
-use Rattle.sv_first_form.specs.Reading.{Part, IsFirst, Fails, ReadsPart, BeginsKind, exact, any_text, both, parts, at_most}
-use Rattle.sv_first_form.specs.Symbols.{Symbol, symbol_with}
+use Rattle.sv_first_form.specs.FormParts.{variable_part, number_part, item_part, further_part, side_part, value_part, equation_part, EndsSum, further_items}
+use Rattle.sv_first_form.specs.FormReading.{Part, IsFirst, Fails, ReadsPart, BeginsKind, exact, any_text, both, parts, at_most}
+use Rattle.sv_first_form.specs.FormSymbols.{Symbol, symbol_with}
 use Rattle.sv_first_form.specs.declared.contract.Item.{Item}
 use Rattle.sv_first_form.specs.declared.contract.Item.TheVariants.{Variable, Number as NumberItem}
 use Rattle.sv_first_form.specs.declared.form_error.FormError.{FormError}

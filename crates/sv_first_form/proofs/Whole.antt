@@ -9,9 +9,9 @@ use Rattle.sv_first_form.proofs.ActParts.{name_is_free, contract_is_reserved}
 use Rattle.sv_first_form.proofs.Names.{first_names}
 use Rattle.sv_first_form.proofs.Sequences.{IsLike, like_first, like_fails, Precedes, same_kind, same_text}
 use Rattle.sv_first_form.specs.FirstForm.{IsContract, IsItem, IsSide, IsEquation, IsFunction, mark, word, note, note_end, item_token, more_tokens, sum_tokens, equation_tokens, note_tokens, variable_tokens, function_tokens, contract_tokens, names_of}
-use Rattle.sv_first_form.specs.Parts.{AreNames, FailsToName, is_refused, has_no_memory, header_part, note_part, notes_part, function_part, functions_part, body_part, contract_part, contract_word, at_end, IsOpened, EndsDeclarations}
-use Rattle.sv_first_form.specs.Reading.{Part, IsFirst, Fails, is_unbuilt, no_memory, exact, both, parts}
-use Rattle.sv_first_form.specs.Symbols.{Symbol}
+use Rattle.sv_first_form.specs.FormParts.{AreNames, FailsToName, is_refused, has_no_memory, header_part, note_part, notes_part, function_part, functions_part, body_part, contract_part, contract_word, at_end, IsOpened, EndsDeclarations}
+use Rattle.sv_first_form.specs.FormReading.{Part, IsFirst, Fails, is_unbuilt, no_memory, exact, both, parts}
+use Rattle.sv_first_form.specs.FormSymbols.{Symbol}
 use Rattle.sv_first_form.specs.declared.contract.Contract.{Contract}
 use Rattle.sv_first_form.specs.declared.contract.Equation.{Equation}
 use Rattle.sv_first_form.specs.declared.contract.Function.{Function}

@@ -3,9 +3,9 @@ use Rattle.std.proofs.Common.{ℕ, List, codes, refl, arith}
 use Rattle.sv_first_form.proofs.Repeats.{GoesOn}
 use Rattle.sv_first_form.proofs.Sequences.{IsLike, like_first, like_fails, Precedes}
 use Rattle.sv_first_form.specs.FirstForm.{mark, word, note, note_end}
-use Rattle.sv_first_form.specs.Parts.{equation_part, note_part, declaration_part, declarations_part, header_part, act_part, acts_part, function_part, EndsDeclarations, EndsFunctions, EndsNotes}
-use Rattle.sv_first_form.specs.Reading.{Part, IsFirst, Fails, exact, any_text, both, parts, at_most}
-use Rattle.sv_first_form.specs.Symbols.{Symbol}
+use Rattle.sv_first_form.specs.FormParts.{equation_part, note_part, declaration_part, declarations_part, header_part, act_part, acts_part, function_part, EndsDeclarations, EndsFunctions, EndsNotes}
+use Rattle.sv_first_form.specs.FormReading.{Part, IsFirst, Fails, exact, any_text, both, parts, at_most}
+use Rattle.sv_first_form.specs.FormSymbols.{Symbol}
 use Rattle.sv_first_form.specs.declared.contract.Act.{Act}
 use Rattle.sv_first_form.specs.declared.contract.Equation.{Equation}
 use Rattle.sv_first_form.specs.declared.form_error.FormError.{FormError}

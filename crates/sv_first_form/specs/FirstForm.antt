@@ -1,8 +1,8 @@
--- The contracts of the first form, and the tokens that each is written in.
+-- Believed: the contracts of the first form, and the tokens that each is written in. Hold it against docs/language.md.
 use Rattle.std.specs.Prelude.{◌≡◌, ◌≢◌, ℕ, ◌^◌, ◌<◌, ◌≤◌, ◌⊎◌, List, [], ◌∷◌, ◌++◌, All, AllPairs, Contains, codes, length, map, slice_get, unwrap_or}
 use Rattle.std.specs.Fmt.{decimal}
 use Rattle.std.specs.List.{AllPass, flat_map}
-use Rattle.sv_first_form.specs.Symbols.{Symbol}
+use Rattle.sv_first_form.specs.FormSymbols.{Symbol}
 use Rattle.sv_first_form.specs.declared.contract.Act.{Act}
 use Rattle.sv_first_form.specs.declared.contract.Act.TheVariants.{Assign, Require}
 use Rattle.sv_first_form.specs.declared.contract.Contract.{Contract}

@@ -1,5 +1,5 @@
-pub mod Symbols
+pub mod FormSymbols
 pub mod FirstForm
-pub mod Reading
+pub mod FormReading
 pub mod Numeral
-pub mod Parts
+pub mod FormParts

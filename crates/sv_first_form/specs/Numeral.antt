@@ -1,4 +1,4 @@
--- The texts that `decimal` writes. It serves the proof of the parser.
+-- Serves the proof: the texts that `decimal` writes.
 use Rattle.std.specs.Prelude.{◌≡◌, ℕ, ◌≤◌, List, EachIndex, length, slice_index}
 use Rattle.std.specs.Int.{IsInRange}
 

@@ -2,9 +2,9 @@
 
 ghost use Rattle.std.specs.Prelude.{◌≡◌, ◌<◌, ◌^◌, [], length, map, Contains, IfOk, IfSome, IfNone, IsErrOf};
 ghost use Rattle.sv_first_form.specs.FirstForm.{StandsFor};
-ghost use Rattle.sv_first_form.specs.Parts.{IsOpened, contract_part, contract_word};
-ghost use Rattle.sv_first_form.specs.Reading.{ReadsPart};
-ghost use Rattle.sv_first_form.specs.Symbols.{symbol};
+ghost use Rattle.sv_first_form.specs.FormParts.{IsOpened, contract_part, contract_word};
+ghost use Rattle.sv_first_form.specs.FormReading.{ReadsPart};
+ghost use Rattle.sv_first_form.specs.FormSymbols.{symbol};
 ghost use Rattle.sv_first_form.specs.declared.contract.Contract.{Contract};
 
 mod act;
@@ -64,7 +64,8 @@ fn parse_whole<'a>(alloc: Global, tokens: &[Token<'a>]) -> Result<Contract<'a>, 
 
 /// The tokens before the first word `contract`, and the tokens from it on.
 fn split_at_contract<'t, 'a>(tokens: &'t [Token<'a>]) -> Option<(&'t [Token<'a>], &'t [Token<'a>])>
-    ensures cut { IfSome result (λ p. IsOpened (map symbol tokens.now) (map symbol p.0.now) (map symbol p.1.now)) }
+    ensures cut { IfSome result
+        (λ p. IsOpened (map symbol tokens.now) (map symbol p.0.now) (map symbol p.1.now)) }
     ensures none { IfNone result (Contains (map symbol tokens.now) contract_word → ⊥) }
 {
     for (at, next) in tokens.iter().enumerate() {

@@ -1,4 +1,4 @@
--- The code's values of the variables at a point of a function, as forms, and the sums that it may add up. They serve the proof of the judge.
+-- Serves the proof: the code's values of the variables at a point of a function, as forms, and the sums that it may add up.
 use Rattle.std.specs.Prelude.{◌==◌, ℕ, ◌<◌, ◌≤◌, ◌^◌, List, All, fold, length, if◌then◌else◌}
 use Rattle.sv_first_form.specs.declared.contract.Equation.{Equation}
 use Rattle.sv_first_form.specs.declared.contract.Item.{Item}

@@ -1,4 +1,4 @@
--- What a contract of the first form does in every list of transactions, and what it is to be safe. Numbers are exact here, with the true range of `uint256`.
+-- Believed: what a contract of the first form does in every list of transactions, and what it is to be safe, in exact numbers and the true range of `uint256`. Hold it against docs/promises.md.
 use Rattle.std.specs.Prelude.{◌≡◌, ◌==◌, ℕ, zero, suc, ◌+◌, ◌^◌, ◌&&◌, List, [], ◌∷◌, ◌++◌, All, Some, None, option_and_then, nat_lt, slice_get, if◌then◌else◌}
 use Rattle.std.specs.declared.option.Option.{Option}
 use Rattle.sv_first_form.specs.declared.contract.Act.{Act}

@@ -1,4 +1,4 @@
--- How a function is judged: the forms of the variables at its end, its hypotheses, and its verdict.
+-- Believed: how a function is judged: the forms of the variables at its end, its hypotheses, and its verdict. Hold it against docs/language.md on verdicts.
 use Rattle.std.specs.Prelude.{◌≡◌, ◌==◌, ℕ, ◌+◌, ◌⊎◌, List, [], ◌∷◌, ◌++◌, All, Any, fold, length, map, codes, if◌then◌else◌}
 use Rattle.sv_first_form.specs.declared.contract.Act.{Act}
 use Rattle.sv_first_form.specs.declared.contract.Act.TheVariants.{Assign, Require}

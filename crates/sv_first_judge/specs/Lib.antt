@@ -3,7 +3,7 @@ pub mod Judging
 pub mod Verdict
 pub mod History
 pub mod Value
-pub mod Laws
+pub mod SafetyLaws
 pub mod Marks
 pub mod Rows
 pub mod Weights

@@ -1,4 +1,4 @@
--- Linear forms: a constant and a coefficient for each variable. They are what the judge knows of a value, over the variables' values at entry.
+-- Believed: linear forms, a constant and a coefficient for each variable: what the judge knows of a value, over the variables' values at entry. Hold it against sums and differences of linear expressions.
 use Rattle.std.specs.Prelude.{◌≡◌, ◌==◌, ℕ, ℤ, pos, ◌+ℤ◌, ◌-ℤ◌, neg_ℤ, if◌then◌else◌}
 
 pub record LinearForm : Type 0 where

@@ -1,4 +1,4 @@
--- The code's values, states and events, as those that the definition of a history speaks of. They serve the clause of `marks`.
+-- Believed: the code's values, states and events, as those that the definition of a history speaks of. Hold it against the types of `history`.
 use Rattle.std.specs.Prelude.{ℕ, List, map, slice_index}
 use Rattle.sv_first_judge.specs.History.{Values, State, Event, History}
 use Rattle.sv_first_judge.specs.History.Event.{Call, Gift}

@@ -1,4 +1,4 @@
--- What the code knows at a point of a function, as the forms that the judge speaks of. It serves the proof of the judge.
+-- Serves the proof: what the code knows at a point of a function, as the forms that the judge speaks of.
 use Rattle.std.specs.Prelude.{List, ◌++◌, ◌⊎◌, ◌≤◌, All, Any, fold, length, map}
 use Rattle.sv_first_form.specs.declared.contract.Act.{Act}
 use Rattle.sv_first_form.specs.declared.contract.Act.TheVariants.{Assign, Require}

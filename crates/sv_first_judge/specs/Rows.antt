@@ -1,4 +1,4 @@
--- The code's rows as linear forms, and how much a row weighs. They serve the proof of the judge.
+-- Serves the proof: the code's rows as linear forms, and how much a row weighs.
 use Rattle.std.specs.Prelude.{◌≡◌, ◌==◌, ℕ, ℤ, pos, ◌+ℤ◌, ◌+◌, ◌≤◌, ◌⊎◌, List, [], ◌∷◌, if◌then◌else◌, All, sum_by}
 use Rattle.std.specs.Int.RustNames.{unsigned_abs}
 use Rattle.sv_first_judge.specs.LinearForm.{LinearForm, IsSame, negation}

@@ -1,4 +1,4 @@
--- What a linear form is worth, where the variables below a place have these values. It serves the law that forms are left.
+-- Believed: what a linear form is worth, where the variables below a place have these values. Hold it against the value of a linear expression.
 use Rattle.std.specs.Prelude.{ℕ, zero, suc, ℤ, pos, ◌+ℤ◌, ◌*ℤ◌}
 use Rattle.sv_first_judge.specs.LinearForm.{LinearForm}
 

@@ -1,4 +1,4 @@
--- What a verdict says in a report, and whether it is verified.
+-- Believed: what a verdict says in a report, and whether it is verified. Hold it against docs/report.md.
 use Rattle.std.specs.Prelude.{ℕ, Bool, true, false, List, ◌++◌, codes}
 use Rattle.std.specs.Fmt.{decimal}
 use Rattle.sv_first_judge.specs.declared.verdict.Verdict.{Verdict}

@@ -1,4 +1,4 @@
--- How much a row can weigh, so that its numbers fit. It serves the proof of the judge.
+-- Serves the proof: how much a row can weigh, so that its numbers fit.
 use Rattle.std.specs.Prelude.{ℕ, zero, suc, ◌*◌, ◌^◌}
 
 -- the magnitude that no number reaches

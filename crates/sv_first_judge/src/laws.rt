@@ -1,4 +1,4 @@
-ghost use Rattle.sv_first_judge.specs.Laws.{FormsAreLeft, VerifiedIsSafe};
+ghost use Rattle.sv_first_judge.specs.SafetyLaws.{FormsAreLeft, VerifiedIsSafe};
 
 /// A contract all of whose functions are verified is safe in every history.
 pub fn verified_is_safe()

@@ -1,4 +1,4 @@
--- What a source or a sink tells of its calls.
+-- Believed: what a source or a sink tells of its calls. Hold it against the calls of `take` and `put` themselves: the room or the piece of each, and its answer.
 use Rattle.std.specs.Prelude.{◌≡◌, ℕ, ◌⊎◌, List, [], ◌∷◌, ◌++◌, Some, None}
 use Rattle.std.specs.declared.option.Option.{Option}
 use Rattle.sv_io.specs.declared.source.Taken.{Taken}

@@ -1,4 +1,4 @@
--- What one call of a source or a sink moves, and the cause of a fault.
+-- Believed: what one call of a source or a sink moves, and the cause of a fault. Hold it against what std's documentation says of `read` and `write`, and docs/report.md on faults.
 use Rattle.std.specs.Prelude.{◌≡◌, ℕ, ◌+◌, ◌-◌, ◌^◌, ◌≤◌, List, [], ◌++◌, length, take, drop, min, Some, None}
 use Rattle.std.specs.declared.option.Option.{Option}
 use Rattle.sv_io.specs.declared.source.Taken.{Taken}

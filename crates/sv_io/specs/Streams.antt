@@ -1,4 +1,4 @@
--- What contracts see of an adapter over a reader or a writer of std.
+-- Believed: what contracts see of an adapter over a reader or a writer of std. Hold it against std's documentation of `Read` and `Write`.
 use Rattle.std.specs.Prelude.{ℕ, List}
 use Rattle.std.specs.declared.option.Option.{Option}
 

@@ -174,7 +174,8 @@ impl Sink for RecordingSink {
 
 /// Empty pieces with memory for `longest` bytes each.
 fn empty_pieces(alloc: Global, most: usize, longest: usize) -> Result<Vec<Vec<u8>>, NoMemory>
-    ensures { IfOk result (λ pieces. (vec_len pieces ≡ most) × All (λ v. (v.items ≡ []) × (longest ≤ vec_capacity v)) pieces.items) }
+    ensures { IfOk result (λ pieces. (vec_len pieces ≡ most)
+        × All (λ v. (v.items ≡ []) × (longest ≤ vec_capacity v)) pieces.items) }
 {
     let mut pieces = Vec::new(alloc);
     'fill: for _ in 0..most {

@@ -1,4 +1,4 @@
--- The integers that an `i128` holds.
+-- Believed: the integers that an `i128` holds. Hold it against Rust's documentation of `i128`.
 use Rattle.std.specs.Prelude.{◌<ℤ◌, ◌≤ℤ◌, ◌^◌, neg_ℤ, pos, ℤ}
 
 -- at least −2^127, and below 2^127

@@ -2,8 +2,8 @@
 #![tactic(auto, using(crate::proofs::Rules::act_reading))]
 
 ghost use Rattle.std.specs.Prelude.{◌≡◌};
-ghost use Rattle.sv_first_form.specs.Parts.{AreNames, assignment_part, requirement_part, act_part, acts_part};
-ghost use Rattle.sv_first_form.specs.Reading.{ReadsPart};
+ghost use Rattle.sv_first_form.specs.FormParts.{AreNames, assignment_part, requirement_part, act_part, acts_part};
+ghost use Rattle.sv_first_form.specs.FormReading.{ReadsPart};
 
 use crate::contract::Act;
 use crate::form_error::FormError;

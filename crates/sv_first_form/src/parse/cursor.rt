@@ -1,7 +1,7 @@
 ghost use Rattle.std.specs.Prelude.{◌≡◌, ◌↔◌, [], IsTrue, map};
-ghost use Rattle.sv_first_form.specs.Parts.{at_end};
-ghost use Rattle.sv_first_form.specs.Reading.{Begins, BeginsKind, ReadsPart, exact, any_text};
-ghost use Rattle.sv_first_form.specs.Symbols.{symbol, symbol_with};
+ghost use Rattle.sv_first_form.specs.FormParts.{at_end};
+ghost use Rattle.sv_first_form.specs.FormReading.{Begins, BeginsKind, ReadsPart, exact, any_text};
+ghost use Rattle.sv_first_form.specs.FormSymbols.{symbol, symbol_with};
 
 use crate::form_error::FormError;
 use crate::text::Text;
@@ -16,7 +16,7 @@ pub struct Cursor<'t, 'a> {
 
 impl<'t, 'a> Model for Cursor<'t, 'a> {
     ghost use Rattle.std.specs.Prelude.{List, map};
-    ghost use Rattle.sv_first_form.specs.Symbols.{Symbol, symbol};
+    ghost use Rattle.sv_first_form.specs.FormSymbols.{Symbol, symbol};
 
     ghost Value = { List Symbol };
 

@@ -1,7 +1,7 @@
 //! The names that a contract declares.
 
 ghost use Rattle.std.specs.Prelude.{◌≡◌, ◌+◌, ◌-◌, ◌<◌, ◌^◌, [], ◌∷◌, length, map};
-ghost use Rattle.sv_first_form.specs.Parts.{AreNames, Declares};
+ghost use Rattle.sv_first_form.specs.FormParts.{AreNames, Declares};
 
 use crate::contract::Function;
 use crate::form_error::FormError;

@@ -2,8 +2,8 @@
 #![tactic(auto, using(crate::proofs::Rules::function_reading))]
 
 ghost use Rattle.std.specs.Prelude.{◌≡◌, []};
-ghost use Rattle.sv_first_form.specs.Parts.{AreNames, function_part, functions_part, body_part};
-ghost use Rattle.sv_first_form.specs.Reading.{ReadsPart};
+ghost use Rattle.sv_first_form.specs.FormParts.{AreNames, function_part, functions_part, body_part};
+ghost use Rattle.sv_first_form.specs.FormReading.{ReadsPart};
 
 use crate::contract::Function;
 use crate::form_error::FormError;

@@ -2,8 +2,8 @@
 #![tactic(auto, using(crate::proofs::Rules::header_reading))]
 
 ghost use Rattle.std.specs.Prelude.{◌≡◌};
-ghost use Rattle.sv_first_form.specs.Parts.{declaration_part, declarations_part, header_part};
-ghost use Rattle.sv_first_form.specs.Reading.{ReadsPart};
+ghost use Rattle.sv_first_form.specs.FormParts.{declaration_part, declarations_part, header_part};
+ghost use Rattle.sv_first_form.specs.FormReading.{ReadsPart};
 
 use crate::form_error::FormError;
 use crate::parse::cursor::Cursor;

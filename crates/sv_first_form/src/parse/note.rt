@@ -2,9 +2,9 @@
 #![tactic(auto, using(crate::proofs::Rules::note_reading))]
 
 ghost use Rattle.std.specs.Prelude.{◌≡◌, [], map};
-ghost use Rattle.sv_first_form.specs.Parts.{AreNames, note_part, notes_part};
-ghost use Rattle.sv_first_form.specs.Reading.{ReadsPart};
-ghost use Rattle.sv_first_form.specs.Symbols.{symbol};
+ghost use Rattle.sv_first_form.specs.FormParts.{AreNames, note_part, notes_part};
+ghost use Rattle.sv_first_form.specs.FormReading.{ReadsPart};
+ghost use Rattle.sv_first_form.specs.FormSymbols.{symbol};
 
 use crate::contract::Equation;
 use crate::form_error::FormError;

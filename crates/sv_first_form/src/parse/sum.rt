@@ -2,8 +2,8 @@
 #![tactic(auto, using(crate::proofs::Rules::reading))]
 
 ghost use Rattle.std.specs.Prelude.{◌≡◌, ◌∷◌, ◌≤◌, IfOk, length};
-ghost use Rattle.sv_first_form.specs.Parts.{AreNames, variable_part, number_part, item_part, further_part, further_items, side_part, value_part, equation_part};
-ghost use Rattle.sv_first_form.specs.Reading.{ReadsPart};
+ghost use Rattle.sv_first_form.specs.FormParts.{AreNames, variable_part, number_part, item_part, further_part, further_items, side_part, value_part, equation_part};
+ghost use Rattle.sv_first_form.specs.FormReading.{ReadsPart};
 
 use crate::contract::{Equation, Item, Sum};
 use crate::form_error::FormError;

@@ -1,6 +1,6 @@
 use Rattle.std.proofs.Common.{map}
 use Rattle.sv_first_form.proofs.Standing.{meaning_of, only_of, unbuilt_of}
-use Rattle.sv_first_form.specs.Symbols.{symbol}
+use Rattle.sv_first_form.specs.FormSymbols.{symbol}
 use Rattle.sv_first_form.proofs.parse.parse.Goals as goal
 
 pub returns-clause-meaning : goal.returns-clause-meaning

@@ -3,7 +3,7 @@ use Rattle.std.proofs.lemmas.List.{length-map}
 use Rattle.std.proofs.lemmas.Result.{err_from_is_err_and}
 use Rattle.sv_first_form.proofs.Names.{named}
 use Rattle.sv_first_form.proofs.Whole.{headed_by, header_fails_by, no_contract, variables_fail_by, notes_fail_by, body_fails_by, name_fails_by, function_names_fail_by, whole_first_by, room_for_name, room_for_functions}
-use Rattle.sv_first_form.specs.Symbols.{symbol}
+use Rattle.sv_first_form.specs.FormSymbols.{symbol}
 use Rattle.sv_first_form.proofs.parse.parse_whole.Goals as goal
 
 pub returns-in_default : goal.returns-in_default

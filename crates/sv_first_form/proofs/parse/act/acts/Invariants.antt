@@ -1,6 +1,6 @@
 use Rattle.std.proofs.Common.{length}
-use Rattle.sv_first_form.specs.Parts.{act_part, EndsActs}
-use Rattle.sv_first_form.specs.Reading.{IsSofar}
+use Rattle.sv_first_form.specs.FormParts.{act_part, EndsActs}
+use Rattle.sv_first_form.specs.FormReading.{IsSofar}
 use Rattle.sv_first_form.proofs.parse.act.acts.Given as goal
 
 abbrev pub invariant-acts : goal.invariant-acts

@@ -1,7 +1,7 @@
 use Rattle.std.proofs.Common.{◌≡◌, sym, subst, arith, is_some, true, false}
 use Rattle.std.proofs.lemmas.Result.{err_from_is_err_and}
 use Rattle.sv_first_form.proofs.Names.{last_is_name, last_is_new, held_from_find, absent_from_find, one_more}
-use Rattle.sv_first_form.specs.Parts.{AreNames, is_refused, has_no_memory}
+use Rattle.sv_first_form.specs.FormParts.{AreNames, is_refused, has_no_memory}
 use Rattle.sv_first_form.proofs.parse.declare.declare.Goals as goal
 
 pub returns-then-not-is_name : goal.returns-then-not-is_name

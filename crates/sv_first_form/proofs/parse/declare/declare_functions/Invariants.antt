@@ -1,5 +1,5 @@
 use Rattle.std.proofs.Common.{◌≡◌, ◌++◌, take, map}
-use Rattle.sv_first_form.specs.Parts.{AreNames}
+use Rattle.sv_first_form.specs.FormParts.{AreNames}
 use Rattle.sv_first_form.proofs.parse.declare.declare_functions.Given as goal
 
 abbrev pub invariant-loop-function : goal.invariant-loop-function

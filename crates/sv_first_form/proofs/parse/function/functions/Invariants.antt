@@ -1,6 +1,6 @@
 use Rattle.std.proofs.Common.{length}
-use Rattle.sv_first_form.specs.Parts.{function_part, EndsFunctions}
-use Rattle.sv_first_form.specs.Reading.{IsSofar}
+use Rattle.sv_first_form.specs.FormParts.{function_part, EndsFunctions}
+use Rattle.sv_first_form.specs.FormReading.{IsSofar}
 use Rattle.sv_first_form.proofs.parse.function.functions.Given as goal
 
 abbrev pub invariant-functions : goal.invariant-functions

@@ -1,6 +1,6 @@
 use Rattle.std.proofs.Common.{length}
-use Rattle.sv_first_form.specs.Parts.{declaration_part, EndsDeclarations}
-use Rattle.sv_first_form.specs.Reading.{IsSofar}
+use Rattle.sv_first_form.specs.FormParts.{declaration_part, EndsDeclarations}
+use Rattle.sv_first_form.specs.FormReading.{IsSofar}
 use Rattle.sv_first_form.proofs.parse.header.declarations.Given as goal
 
 abbrev pub invariant-variables : goal.invariant-variables

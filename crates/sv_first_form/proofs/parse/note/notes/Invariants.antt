@@ -1,7 +1,7 @@
 use Rattle.std.proofs.Common.{length, map}
-use Rattle.sv_first_form.specs.Parts.{note_part, EndsNotes}
-use Rattle.sv_first_form.specs.Reading.{IsSofar}
-use Rattle.sv_first_form.specs.Symbols.{symbol}
+use Rattle.sv_first_form.specs.FormParts.{note_part, EndsNotes}
+use Rattle.sv_first_form.specs.FormReading.{IsSofar}
+use Rattle.sv_first_form.specs.FormSymbols.{symbol}
 use Rattle.sv_first_form.proofs.parse.note.notes.Given as goal
 
 abbrev pub invariant-notes : goal.invariant-notes

@@ -1,6 +1,6 @@
 use Rattle.std.proofs.Common.{length}
-use Rattle.sv_first_form.specs.Parts.{further_part, EndsSum}
-use Rattle.sv_first_form.specs.Reading.{IsSofar}
+use Rattle.sv_first_form.specs.FormParts.{further_part, EndsSum}
+use Rattle.sv_first_form.specs.FormReading.{IsSofar}
 use Rattle.sv_first_form.proofs.parse.sum.further_items.Given as goal
 
 abbrev pub invariant-items : goal.invariant-items

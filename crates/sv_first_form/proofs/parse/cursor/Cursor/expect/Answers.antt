@@ -1,6 +1,6 @@
 use Rattle.std.proofs.Common.{arith}
 use Rattle.sv_first_form.proofs.Sequences.{exact_first, exact_fails, first_and_rest}
-use Rattle.sv_first_form.specs.Symbols.{symbol_with}
+use Rattle.sv_first_form.specs.FormSymbols.{symbol_with}
 use Rattle.sv_first_form.proofs.parse.cursor.Cursor.expect.Goals as goal
 
 pub returns-then-not-sees : goal.returns-then-not-sees

@@ -1,6 +1,6 @@
 use Rattle.std.proofs.Common.{◌≡◌, arith, rules, sym}
 use Rattle.sv_first_form.proofs.Sequences.{text_first, text_fails, first_and_rest, begins_with, begins_nothing, begins_kind}
-use Rattle.sv_first_form.specs.Symbols.{symbol_with}
+use Rattle.sv_first_form.specs.FormSymbols.{symbol_with}
 use Rattle.sv_first_form.proofs.parse.cursor.Cursor.text.Goals as goal
 
 pub returns-in_default : goal.returns-in_default

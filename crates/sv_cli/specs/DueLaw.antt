@@ -1,4 +1,4 @@
--- A law of the definitions, the contract of a function without a body.
+-- Believed: what the law `due_is_one` says: one answer is due for a text. Hold it against docs/report.md.
 use Rattle.std.specs.Prelude.{◌≡◌, ℕ, List}
 use Rattle.sv_cli.specs.Due.{IsDue}
 use Rattle.sv_cli.specs.declared.ended.Ended.{Ended}

@@ -1,4 +1,4 @@
--- Laws of the definitions, each the contract of a function without a body.
+-- Believed: what the laws `verified_is_safe` and `forms_are_left` say. Hold it against docs/promises.md.
 use Rattle.std.specs.Prelude.{◌≡◌, ℕ, ◌<◌, List, All, Some, length, pos, true}
 use Rattle.std.specs.List.{list_all}
 use Rattle.sv_first_form.specs.FirstForm.{IsAct, IsContract}

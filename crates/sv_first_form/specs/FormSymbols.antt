@@ -1,4 +1,4 @@
--- Symbols: what the form of a text is about. They are the kinds and the texts of its tokens, without their places.
+-- Believed: what the form of a text is about: the kinds and the texts of its tokens, without their places. Hold it against docs/language.md.
 use Rattle.std.specs.Prelude.{ℕ, List}
 use Rattle.sv_lex.specs.Tokens.{Lexeme}
 use Rattle.sv_lex.specs.declared.tok.Tok.{Tok}

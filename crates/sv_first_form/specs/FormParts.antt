@@ -1,9 +1,9 @@
--- The parts of a contract of the first form. They serve the proof of the parser.
+-- Serves the proof: the parts of a contract of the first form.
 use Rattle.std.specs.Prelude.{◌≡◌, ◌≢◌, ℕ, ◌<◌, ◌^◌, List, [], ◌∷◌, ◌++◌, All, AllPairs, Contains, codes, length, Result, Ok, Err}
 use Rattle.std.specs.List.{flat_map}
 use Rattle.sv_first_form.specs.FirstForm.{IsName, IsContract, IsItem, IsSide, IsValue, IsEquation, IsAct, IsFunction, word, number, mark, name_at, item_token, sum_tokens, equation_tokens, note_tokens, variable_tokens, act_tokens, function_tokens, contract_tokens}
-use Rattle.sv_first_form.specs.Reading.{Part, Begins, anything, parts, at_most}
-use Rattle.sv_first_form.specs.Symbols.{Symbol}
+use Rattle.sv_first_form.specs.FormReading.{Part, Begins, anything, parts, at_most}
+use Rattle.sv_first_form.specs.FormSymbols.{Symbol}
 use Rattle.sv_first_form.specs.declared.contract.Act.{Act}
 use Rattle.sv_first_form.specs.declared.contract.Act.TheVariants.{Assign, Require}
 use Rattle.sv_first_form.specs.declared.contract.Contract.{Contract}

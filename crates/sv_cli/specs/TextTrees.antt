@@ -1,4 +1,4 @@
--- Trees of a text's tokens in the grammar, and how many of the tokens begin a list that has one.
+-- Believed: trees of a text's tokens in the grammar, and how many of the tokens begin a list that has one. Hold it against docs/grammar.md, and docs/report.md on the place of `Syntax`.
 use Rattle.std.specs.Prelude.{ℕ, List}
 use Rattle.sv_ast.specs.Syntax as s
 use Rattle.sv_ast.specs.Syntax.{rules}

@@ -1,7 +1,7 @@
--- What reading a part of a contract from the front of tokens gives. It serves the proof of the parser.
+-- Serves the proof: what reading a part of a contract from the front of tokens gives.
 use Rattle.std.specs.Prelude.{◌≡◌, ℕ, ◌≤◌, List, [], ◌∷◌, ◌++◌, All, Result, Ok, Err, length}
 use Rattle.std.specs.List.{flat_map}
-use Rattle.sv_first_form.specs.Symbols.{Symbol, symbol_with}
+use Rattle.sv_first_form.specs.FormSymbols.{Symbol, symbol_with}
 use Rattle.sv_first_form.specs.declared.form_error.FormError.{FormError}
 use Rattle.sv_first_form.specs.declared.form_error.FormError.TheVariants.{Unbuilt, NoMemory}
 use Rattle.sv_lex.specs.declared.tok.Tok.{Tok}
