@@ -1,0 +1,4 @@
+pub mod Numerals
+pub mod SortTexts
+pub mod EntryTexts
+pub mod LineTexts
