@@ -1,4 +1,4 @@
--- What contracts see of a book of rules.
+-- Believed: what contracts see of a book of rules. Hold it against the field that it reads.
 use Rattle.std.specs.Prelude.{List, map, string_bytes, ℕ}
 use Rattle.sv_term.specs.declared.book.RuleBook.{RuleBook}
 

@@ -1,1 +1,9 @@
+pub mod Sorts
+pub mod Values
+pub mod Terms
+pub mod Models
+pub mod FactRules
+pub mod FactRuleTest
+pub mod TermLaws
+pub mod ModelMaking
 pub mod Book

@@ -1,11 +1,11 @@
-//! The book of the rules that rewrite terms.
+//! Sorts and terms, what they mean, and the rules by which facts about them follow.
 //!
 //! Promises: a new book has no rules, and making one takes no memory.
 //! Stands on: std alone.
-//! Read first: `specs/Book.antt`.
 #![tactic(auto)]
 
 mod book;
+pub mod laws;
 
 pub use book::RuleBook;
 

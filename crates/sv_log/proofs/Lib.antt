@@ -1,0 +1,4 @@
+pub mod Amounts
+pub mod FormAmounts
+pub mod Soundness
+pub mod Causes

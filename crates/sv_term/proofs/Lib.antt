@@ -1,0 +1,10 @@
+pub mod Same
+pub mod Maps
+pub mod Numbers
+pub mod Typed
+pub mod Plain
+pub mod FactRules
+pub mod FactRuleTest
+pub mod ModelMaking
+pub mod Gathered
+pub mod Examples
