@@ -1,0 +1,5 @@
+use Rattle.sv_fraction.proofs.Steps.{whole_reduced}
+use Rattle.sv_fraction.proofs.Fraction.whole.Goals as goal
+
+pub invariant_of-result : goal.invariant_of-result
+invariant_of-result c = whole_reduced _

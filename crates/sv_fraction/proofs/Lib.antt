@@ -1,0 +1,4 @@
+mod Comparing
+pub mod Integers
+mod Reducing
+mod Steps
