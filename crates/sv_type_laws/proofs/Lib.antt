@@ -1,0 +1,4 @@
+pub mod Writes
+pub mod Sums
+pub mod Copies
+pub mod Tests
