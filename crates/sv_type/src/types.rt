@@ -66,7 +66,7 @@ impl Types {
         ensures { IsTrue result ↔ ContainsType self.now t part }
     {
         if t == part {
-            return true;
+            return true; // a type contains itself
         }
         match self.get(t) {
             TypeInfo::Struct(fields) => {
