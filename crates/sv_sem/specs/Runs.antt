@@ -38,7 +38,7 @@ turned_by o r again = r
 
 -- the turns of a loop, at most n. Each takes a unit of gas once the condition was found true
 abbrev pub turns : ℕ → Setting → Rec → Runner → Expr → Stmts → Stmts → Runner
-turns zero set rec rest test body update g = reverted g
+turns zero set rec rest test body update g = with_truth set rec test g (λ b h. if b then reverted h else ran (Ends Done) h)
 turns (suc n) set rec rest test body update g =
     with_truth set rec test g (λ b h.
     if b
