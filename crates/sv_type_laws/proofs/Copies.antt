@@ -108,7 +108,7 @@ below zero (suc n) h d = omega arith
 below (suc k) zero h d = absurd (omega arith)
 below (suc k) (suc n) h d = let e : k < n = below k n (omega arith) (λ e. d (ap suc e)) in omega (arith, e)
 
-at_filled : (n : ℕ) (f : ℤ → Tree) (es : Entries) (d : Tree) (k : ℕ) → k < n → entry (pos k) (filled n f es) d ≡ f (pos k)
+pub at_filled : (n : ℕ) (f : ℤ → Tree) (es : Entries) (d : Tree) (k : ℕ) → k < n → entry (pos k) (filled n f es) d ≡ f (pos k)
 at_filled zero f es d k h = absurd (omega arith)
 at_filled (suc n) f es d k h = go (int_eq (pos k) (pos n)) refl (at_filled n f es d k)
   where
@@ -137,7 +137,7 @@ array_reads s (pos n) es fs d e each (Index (pos k) ∷ p) h =
 array_reads s (negsuc n) es fs d e each (Index (pos k) ∷ p) h = absurd (omega (arith, ints, h.1))
 array_reads s l es fs d e each (Index (negsuc k) ∷ p) h = absurd (omega (arith, ints, h.0))
 
-struct_reads : (ts us : Trees) → ((k : ℕ) (p : List Step) → Below p (field k ts) → face (read p (field k us)) ≡ face (read p (field k ts))) → ReadsAsItsSource (Struct us) (Struct ts)
+pub struct_reads : (ts us : Trees) → ((k : ℕ) (p : List Step) → Below p (field k ts) → face (read p (field k us)) ≡ face (read p (field k ts))) → ReadsAsItsSource (Struct us) (Struct ts)
 struct_reads ts us each [] h = refl
 struct_reads ts us each (At k ∷ p) h = each k p h
 struct_reads ts us each (Index i ∷ p) h = refl

@@ -2,3 +2,4 @@ pub mod Writes
 pub mod Sums
 pub mod Copies
 pub mod Tests
+pub mod Into

@@ -1,4 +1,4 @@
-ghost use Rattle.sv_type_laws.specs.TreeLaws.{ReadsBack, LeavesOthers, KeepsType, ReadsItsType, SumMoves, TestIsExact, DefaultsFit, ClearedFits, CopiesRead, AssignmentsRead};
+ghost use Rattle.sv_type_laws.specs.TreeLaws.{ReadsBack, LeavesOthers, KeepsType, ReadsItsType, SumMoves, TestIsExact, DefaultsFit, ClearedFits, CopiesRead, AssignmentsRead, CopiesInto};
 
 /// Storage is read and written at paths.
 pub fn reading_and_writing()
@@ -16,4 +16,5 @@ pub fn copying()
     ensures cleared { ClearedFits }
     ensures copies { CopiesRead }
     ensures assignments { AssignmentsRead }
+    ensures into_memory { CopiesInto }
 {}
