@@ -1,0 +1,16 @@
+pub mod States
+pub mod Operators
+pub mod Parts
+pub mod TrueValues
+pub mod Annotations
+pub mod Adversary
+pub mod RunParts
+pub mod Calls
+pub mod Runs
+pub mod Histories
+pub mod Safety
+pub mod WellTyped
+pub mod FreeValues
+pub mod Changes
+pub mod ModularRuns
+pub mod MayFail

@@ -1,0 +1,6 @@
+pub mod Writing
+pub mod BankHistories
+pub mod PointerHistories
+pub mod CallHistories
+pub mod ContractHistories
+pub mod Verdicts

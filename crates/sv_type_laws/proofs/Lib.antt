@@ -1,0 +1,5 @@
+pub mod Writes
+pub mod Sums
+pub mod Copies
+pub mod Tests
+pub mod Into
