@@ -1,0 +1,2 @@
+mod Euclid
+mod Least
