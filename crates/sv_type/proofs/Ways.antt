@@ -75,11 +75,12 @@ module _ (types : List TypeInfo) (t : ℕ) (info : TypeInfo) (here : slice_get t
 
   -- a type with one part
   pub contains_by_one : (p part : ℕ) (b : Bool) → held_by info ≡ p ∷ [] → t ≢ part → IsTrue b ↔ ContainsType types p part → IsTrue b ↔ ContainsType types t part
-  contains_by_one p part b one differ (ahead, back) =
-      (λ h. contains_deeper p part (subst (λ ps. Contains ps p) (sym one) (Contains-get_or (p ∷ []) 0 p (omega arith))) (ahead h),
-      λ h. let (q, held, deeper) = contains_in_part part differ h in
-          let same : q ≡ p = only p q (subst (λ ps. Contains ps q) one held) in
-          back (subst (λ r. ContainsType types r part) same deeper))
+  contains_by_one p part b one differ (ahead, back) = (
+    λ h. contains_deeper p part (subst (λ ps. Contains ps p) (sym one) (Contains-get_or (p ∷ []) 0 p (omega arith))) (ahead h),
+    λ h. let (q, held, deeper) = contains_in_part part differ h in
+        let same : q ≡ p = only p q (subst (λ ps. Contains ps q) one held) in
+        back (subst (λ r. ContainsType types r part) same deeper),
+  )
 
   -- a type with a list of parts, one of which contains the type
   pub contains_by_some : (part k : ℕ) → k < length (held_by info) → ContainsType types (get_or (held_by info) k 0) part → IsTrue true ↔ ContainsType types t part
@@ -87,10 +88,11 @@ module _ (types : List TypeInfo) (t : ℕ) (info : TypeInfo) (here : slice_get t
 
   -- a type none of whose parts contains the type
   pub contains_by_none : (part : ℕ) → t ≢ part → ((k : ℕ) → k < length (held_by info) → ContainsType types (get_or (held_by info) k 0) part → ⊥) → IsTrue false ↔ ContainsType types t part
-  contains_by_none part differ none =
-      (λ h. absurd (true≢false (sym h)),
-      λ h. let (q, (k, within, is), deeper) = contains_in_part part differ h in
-          absurd (none k within (subst (λ r. ContainsType types r part) (sym is ∙ get_or_default_zero (held_by info) k q within) deeper)))
+  contains_by_none part differ none = (
+    λ h. absurd (true≢false (sym h)),
+    λ h. let (q, (k, within, is), deeper) = contains_in_part part differ h in
+        absurd (none k within (subst (λ r. ContainsType types r part) (sym is ∙ get_or_default_zero (held_by info) k q within) deeper)),
+  )
 
   -- the parts stand before the type
   pub part_below : IsOrdered types → (k : ℕ) → k < length (parts_of info) → get_or (parts_of info) k 0 < t
@@ -107,10 +109,11 @@ module _ (types : List TypeInfo) (t : ℕ) (info : TypeInfo) (here : slice_get t
 
   -- what an array's elements, which are values, decide of it
   pub flat_array : (e : ℕ) (inner : TypeInfo) → slice_get types e ≡ Some inner → element_of info ≡ Some e → held_by info ≡ e ∷ [] → IsTrue (is_value inner) ↔ IsFlat types t
-  flat_array e inner at is one =
-      (λ value a x deeper (other, there, element). array_of_value e inner at is one value a x deeper other there element,
-      λ flat. let (other, there, value) = flat t e ([], refl) (info, here, is) in
-          subst (λ i. is_value i ≡ true) (same_some other inner (sym there ∙ at)) value)
+  flat_array e inner at is one = (
+    λ value a x deeper (other, there, element). array_of_value e inner at is one value a x deeper other there element,
+    λ flat. let (other, there, value) = flat t e ([], refl) (info, here, is) in
+        subst (λ i. is_value i ≡ true) (same_some other inner (sym there ∙ at)) value,
+  )
 
   -- a type that is no array is flat where its parts are
   pub flat_by_parts : element_of info ≡ None → ((k : ℕ) → k < length (held_by info) → IsFlat types (get_or (held_by info) k 0)) → IsFlat types t
@@ -127,18 +130,20 @@ module _ (types : List TypeInfo) (t : ℕ) (info : TypeInfo) (here : slice_get t
 
   -- a value holds nothing
   pub contains_by_value : (part : ℕ) → t ≢ part → is_value info ≡ true → IsTrue false ↔ ContainsType types t part
-  contains_by_value part differ value =
-      (λ h. absurd (true≢false (sym h)),
-      λ h. let (q, held, deeper) = contains_in_part part differ h in absurd (value_holds_nothing info value q held))
+  contains_by_value part differ value = (
+    λ h. absurd (true≢false (sym h)),
+    λ h. let (q, held, deeper) = contains_in_part part differ h in absurd (value_holds_nothing info value q held),
+  )
 
   pub flat_value : is_value info ≡ true → IsFlat types t
   flat_value value a e (way, leads) (other, there, element) = absurd (no_way_down t info here value a e way leads other there element)
 
   -- a type with one part, which is no array
   pub flat_by_one : (p : ℕ) (b : Bool) → element_of info ≡ None → held_by info ≡ p ∷ [] → IsTrue b ↔ IsFlat types p → IsTrue b ↔ IsFlat types t
-  flat_by_one p b no_array one (ahead, back) =
-      (λ h. flat_by_parts no_array (λ k within. subst (IsFlat types) (sym (first k within)) (ahead h)),
-      λ flat. back (subst (IsFlat types) (first 0 (subst (λ ps. 0 < length ps) (sym one) (omega arith))) (flat_part flat 0 (subst (λ ps. 0 < length ps) (sym one) (omega arith)))))
+  flat_by_one p b no_array one (ahead, back) = (
+    λ h. flat_by_parts no_array (λ k within. subst (IsFlat types) (sym (first k within)) (ahead h)),
+    λ flat. back (subst (IsFlat types) (first 0 (subst (λ ps. 0 < length ps) (sym one) (omega arith))) (flat_part flat 0 (subst (λ ps. 0 < length ps) (sym one) (omega arith)))),
+  )
     where
       first_of_one : (k : ℕ) → k < length (p ∷ []) → get_or (p ∷ []) k 0 ≡ p
       first_of_one zero h = refl

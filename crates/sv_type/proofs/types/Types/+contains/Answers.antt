@@ -25,7 +25,7 @@ pub returns-then-contains : goal.returns-then-contains
 returns-then-contains t c =
     let is = item_at c.as_slice-field-items.result.now c.loop-field.field-index c.field-item.result c.field-item.is c.loop-field-test.true in
     let deeper : ContainsType c.args.self.now (get_or c.in-Struct.fields c.loop-field.field-index 0) c.args.part =
-        subst (λ x. ContainsType c.args.self.now x c.args.part) (sym is ∙ ap (λ xs. get_or xs c.loop-field.field-index 0) c.as_slice-field-items.ensures) (is_so c.contains.result c.if-contains.true c.contains.ensures) in
+    subst (λ x. ContainsType c.args.self.now x c.args.part) (sym is ∙ ap (λ xs. get_or xs c.loop-field.field-index 0) c.as_slice-field-items.ensures) (is_so c.contains.result c.if-contains.true c.contains.ensures) in
     contains_by_some c.args.self.now c.args.t (Struct c.in-Struct.fields) (c.get.ensures.found ∙ ap Some c.in-Struct.is) c.args.part c.loop-field.field-index
     (subst (λ xs. c.loop-field.field-index < length xs) c.as_slice-field-items.ensures c.loop-field-test.true) deeper
 
@@ -33,7 +33,7 @@ pub loop-field-preserved : goal.loop-field-preserved
 loop-field-preserved t c =
     below_more _ _ c.loop-field.invariant
     (λ h. not_so c.contains.result c.if-contains.false c.contains.ensures
-        (subst (λ x. ContainsType c.args.self.now x c.args.part) (item_at c.as_slice-field-items.result.now c.loop-field.field-index c.field-item.result c.field-item.is c.loop-field-test.true) h))
+    (subst (λ x. ContainsType c.args.self.now x c.args.part) (item_at c.as_slice-field-items.result.now c.loop-field.field-index c.field-item.result c.field-item.is c.loop-field-test.true) h))
 
 pub contains-requires-in-Fixed : goal.contains-requires-in-Fixed
 contains-requires-in-Fixed t c =
@@ -73,6 +73,6 @@ returns-in-Mapping t c =
     c.in-Mapping.value c.args.part c.contains-in-Mapping.result refl (differ c.eq.ensures c.if-eq.false) c.contains-in-Mapping.ensures
 
 pub returns-in_default : goal.returns-in_default
-returns-in_default t c = 
+returns-in_default t c =
     contains_by_value c.args.self.now c.args.t c.get.result.now c.get.ensures.found c.args.part (differ c.eq.ensures c.if-eq.false)
     (none_held c.get.result.now c.in_default.not-Struct c.in_default.not-Fixed c.in_default.not-Dynamic c.in_default.not-Mapping)

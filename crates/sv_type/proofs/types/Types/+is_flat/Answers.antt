@@ -28,7 +28,7 @@ returns-then-not-is_flat t c =
     let is = item_at c.as_slice-field-items.result.now c.loop-field.field-index c.field-item.result c.field-item.is c.loop-field-test.true in
     let is' : get_or c.in-Struct.fields c.loop-field.field-index 0 ≡ c.field-item.result = subst (λ xs. get_or xs c.loop-field.field-index 0 ≡ c.field-item.result) c.as_slice-field-items.ensures is in
     not_flat (λ flat. not_so c.is_flat.result c.if-not-is_flat.true c.is_flat.ensures
-        (subst (IsFlat c.args.self.now) is' (flat_part c.args.self.now c.args.t (Struct c.in-Struct.fields) (c.get.ensures.found ∙ ap Some c.in-Struct.is) flat c.loop-field.field-index within)))
+    (subst (IsFlat c.args.self.now) is' (flat_part c.args.self.now c.args.t (Struct c.in-Struct.fields) (c.get.ensures.found ∙ ap Some c.in-Struct.is) flat c.loop-field.field-index within)))
 
 pub loop-field-preserved : goal.loop-field-preserved
 loop-field-preserved t c =
@@ -56,7 +56,7 @@ returns-after-loop-field t c =
     let done = c.loop-field-test.false in
     let len = ap length c.as_slice-field-items.ensures in
     so (flat_by_parts c.args.self.now c.args.t (Struct c.in-Struct.fields) (c.get.ensures.found ∙ ap Some c.in-Struct.is) refl
-        (λ k within. subst (λ xs. IsFlat c.args.self.now (get_or xs k 0)) c.as_slice-field-items.ensures (c.loop-field.invariant k (omega arith))))
+    (λ k within. subst (λ xs. IsFlat c.args.self.now (get_or xs k 0)) c.as_slice-field-items.ensures (c.loop-field.invariant k (omega arith))))
 
 pub returns-in-Fixed : goal.returns-in-Fixed
 returns-in-Fixed t c =
@@ -76,4 +76,4 @@ returns-in-Mapping t c =
 pub returns-in_default : goal.returns-in_default
 returns-in_default t c =
     so (flat_value c.args.self.now c.args.t c.get.result.now c.get.ensures.found
-        (none_held c.get.result.now c.in_default.not-Struct c.in_default.not-Fixed c.in_default.not-Dynamic c.in_default.not-Mapping))
+    (none_held c.get.result.now c.in_default.not-Struct c.in_default.not-Fixed c.in_default.not-Dynamic c.in_default.not-Mapping))
