@@ -5,7 +5,7 @@ use Rattle.std.proofs.lemmas.Bool.Decides.{Decides-eqb, Decides-ltb}
 use lib.IntN.{ℤ, pos, ◌+ℤ◌, ◌*ℤ◌}
 use Rattle.sv_log.specs.LogEntries.{Monomial}
 use Rattle.sv_log.specs.LogRows.{monomial, total, is_zero, with_part, with_parts, times_parts}
-use Rattle.sv_point.specs.Points.{AreBelow}
+use Rattle.sv_point.specs.NearestPoints.{AreBelow}
 
 unequal : (x y : ℕ) → y < x → nat_eq x y ≡ false
 unequal x y h = go (nat_eq x y) refl

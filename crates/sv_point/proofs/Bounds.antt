@@ -6,7 +6,7 @@ use lib.IntN.{ℤ, pos, negsuc, neg_ℤ, ◌+ℤ◌, ◌*ℤ◌, *ℤ_comm}
 use lib.Signed.{◌≤ℤ◌, ◌<ℤ◌}
 use Rattle.sv_fraction.specs.Fractions.{Ratio, sum_with, magnitude}
 use Rattle.sv_fraction.proofs.Integers.{spread, exchanged, negated_left, negated_right, multiplied, cancelled, same_cancelled, positive_is}
-use Rattle.sv_point.specs.Points.{worth, with_value}
+use Rattle.sv_point.specs.NearestPoints.{worth, with_value}
 use Rattle.sv_point.specs.PointLaws.{BoundsAreExact, ChosenIsNearest}
 use Rattle.sv_point.proofs.Worths.{row_worth, worth_positive, scaled, by_size}
 

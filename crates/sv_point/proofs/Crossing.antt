@@ -8,7 +8,7 @@ use Rattle.sv_log.specs.LogRows.{monomial, total, with_parts, times_parts}
 use Rattle.sv_log.proofs.Amounts.{with_parts_total, times_total}
 use Rattle.sv_fraction.specs.Fractions.{Ratio}
 use Rattle.sv_fraction.proofs.Integers.{spread, regrouped, exchanged, negated_left, negated_right, multiplied, cancelled, positive_is}
-use Rattle.sv_point.specs.Points.{AreBelow, worth}
+use Rattle.sv_point.specs.NearestPoints.{AreBelow, worth}
 use Rattle.sv_point.specs.PointLaws.{ArePositive, IsBoundOf, BoundsAreCrossed}
 use Rattle.sv_point.proofs.Worths.{worth_positive, scaled, by_size, same_over}
 use Rattle.sv_point.proofs.Bounds.{no_product, product_of_positives, bound_over}

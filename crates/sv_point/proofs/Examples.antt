@@ -2,7 +2,7 @@
 use Rattle.std.proofs.Common.{ℕ, zero, suc, [], ◌∷◌, ◌≡◌, refl, pos, negsuc}
 use Rattle.sv_log.specs.LogRows.{monomial}
 use Rattle.sv_fraction.specs.Fractions.{Ratio, ratio}
-use Rattle.sv_point.specs.Points.{worth}
+use Rattle.sv_point.specs.NearestPoints.{worth}
 
 -- 5 + 2·x at x = -5/2 is 0
 half : (worth (λ x. ratio (negsuc 4) (pos 2)) (pos 5) (monomial (pos 2) 0 ∷ [])).top ≡ pos 0

@@ -7,7 +7,7 @@ use Rattle.sv_log.specs.LogEntries.{Monomial}
 use Rattle.sv_log.specs.LogRows.{total}
 use Rattle.sv_fraction.specs.Fractions.{Ratio, ratio, sum_with}
 use Rattle.sv_fraction.proofs.Integers.{spread_left, regrouped, exchanged, positive_is}
-use Rattle.sv_point.specs.Points.{AreBelow, amount_from, worth}
+use Rattle.sv_point.specs.NearestPoints.{AreBelow, amount_from, worth}
 use Rattle.sv_point.specs.PointLaws.{ArePositive}
 use Rattle.sv_point.proofs.Bounds.{product_of_positives}
 

@@ -8,7 +8,7 @@ use Rattle.sv_log.specs.LogEntries.{Monomial, Row}
 use Rattle.sv_log.specs.LogRows.{monomial}
 use Rattle.sv_fraction.specs.Fractions.{Ratio, ratio, IsSame, sum_with}
 use Rattle.sv_fraction.proofs.Integers.{spread, regrouped, same_cancelled, product_positive, positive_is}
-use Rattle.sv_point.specs.Points.{AreBelow, IsRowOf, amount_from, worth, with_value, IsWorth}
+use Rattle.sv_point.specs.NearestPoints.{AreBelow, IsRowOf, amount_from, worth, with_value, IsWorth}
 use Rattle.sv_point.specs.PointLaws.{ArePositive, WorthIsExact}
 
 pub amount-append : (at : ℕ → Ratio) (f : Ratio) (ps : List Monomial) (p : Monomial) → amount_from at f (ps ++ p ∷ []) ≡ sum_with (amount_from at f ps) p.factor (at p.column)

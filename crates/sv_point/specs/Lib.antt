@@ -1,2 +1,2 @@
 pub mod PointLaws
-pub mod Points
+pub mod NearestPoints

@@ -4,7 +4,7 @@ use Rattle.std.specs.List.{Contains}
 use Rattle.sv_log.specs.LogEntries.{Row}
 use Rattle.sv_log.specs.LogRows.{sum_of, times}
 use Rattle.sv_fraction.specs.Fractions.{Ratio, ratio, IsSame, IsBound}
-use Rattle.sv_point.specs.Points.{IsRowOf, worth, IsMet, with_value, IsAtMost, IsWorth, IsNearestAt}
+use Rattle.sv_point.specs.NearestPoints.{IsRowOf, worth, IsMet, with_value, IsAtMost, IsWorth, IsNearestAt}
 
 -- each column has a positive denominator
 abbrev pub ArePositive : (ℕ → Ratio) → Type 0

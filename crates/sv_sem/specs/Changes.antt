@@ -10,7 +10,7 @@ use Rattle.sv_core.specs.PlainCode as code
 use Rattle.sv_core.specs.PlainCode.{Expr, Act, Stmts, Arms}
 use Rattle.sv_core.specs.PlainCore.{Contract, Function, Variable, Use}
 use Rattle.sv_sem.specs.States.{State, View, Unset, type_of, or_else}
-use Rattle.sv_sem.specs.Parts.{loc_of}
+use Rattle.sv_sem.specs.NamedParts.{loc_of}
 use Rattle.sv_sem.specs.TrueValues.{effect_of}
 use Rattle.sv_sem.specs.RunParts.{func_at, modifier_at}
 

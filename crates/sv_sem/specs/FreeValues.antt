@@ -8,9 +8,9 @@ use Rattle.sv_core.specs.PlainCode.{Expr, Exprs, Maybe}
 use Rattle.sv_core.specs.PlainCore.{Contract}
 use Rattle.sv_sem.specs.States.{Held, Value, View, root, tree_at, local_at, type_of, kind_of, Choose}
 use Rattle.sv_sem.specs.Operators.{of_bool, is_zero, tested, binary, unary, decides, converted, is_open}
-use Rattle.sv_sem.specs.Parts.{at_path, environment, part, element, length_held, settled, Target, ToLocal, ToPath, part_target}
+use Rattle.sv_sem.specs.NamedParts.{at_path, environment, part, element, length_held, settled, Target, ToLocal, ToPath, part_target}
 use Rattle.sv_sem.specs.TrueValues.{literal, limit, a_value, element_target, pointed}
-use Rattle.sv_sem.specs.Annotations.{Limits}
+use Rattle.sv_sem.specs.AnnotationTruth.{Limits}
 
 -- ---- the constants of wide types
 

@@ -9,11 +9,11 @@ use Rattle.sv_core.specs.PlainCode as code
 use Rattle.sv_core.specs.PlainCode.{Expr}
 use Rattle.sv_core.specs.PlainCore.{Contract, Function, Constructor, Given, Variable}
 use Rattle.sv_sem.specs.States.{Held, State, View, root, more_balance, with_state, with_locals, from_some, with_some}
-use Rattle.sv_sem.specs.Parts.{assign, ToPath}
+use Rattle.sv_sem.specs.NamedParts.{assign, ToPath}
 use Rattle.sv_sem.specs.TrueValues.{value}
 use Rattle.sv_sem.specs.Adversary.{Visit, Visits, Event, Comes, Gift, Events, NoEvent, ThenEvent, Reply, Replies_with, Replies, NoReply, ThenReply, Mark, AtState, After, Meeting}
 use Rattle.sv_sem.specs.RunParts.{Outcome, Ends, Reverted, Done, Config, Ran, Runner, Rec, Setting, ran, reverted, viewed, next, with_option, func_at, bound, entered, end_marks}
-use Rattle.sv_sem.specs.Calls.{run_function, taken, all_fit, finished, same_view}
+use Rattle.sv_sem.specs.Effects.{run_function, taken, all_fit, finished, same_view}
 use Rattle.sv_sem.specs.Runs.{run, with_values}
 
 -- ---- visits

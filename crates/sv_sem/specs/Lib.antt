@@ -1,11 +1,11 @@
 pub mod States
 pub mod Operators
-pub mod Parts
+pub mod NamedParts
 pub mod TrueValues
-pub mod Annotations
+pub mod AnnotationTruth
 pub mod Adversary
 pub mod RunParts
-pub mod Calls
+pub mod Effects
 pub mod Runs
 pub mod Histories
 pub mod Safety

@@ -6,10 +6,10 @@ use Rattle.sv_core.specs.declared.label.FuncId.TheVariants as func
 use Rattle.sv_core.specs.PlainCode.{Expr}
 use Rattle.sv_core.specs.PlainCore.{Contract, Function, Constructor, Given, Variable}
 use Rattle.sv_sem.specs.States.{Held, State, View, Choose, choose, root, more_balance, with_state}
-use Rattle.sv_sem.specs.Parts.{assign, ToPath}
-use Rattle.sv_sem.specs.Annotations.{Limits, AllHold, FirstFalse, at_view, at_state, at_end}
+use Rattle.sv_sem.specs.NamedParts.{assign, ToPath}
+use Rattle.sv_sem.specs.AnnotationTruth.{Limits, AllHold, FirstFalse, at_view, at_state, at_end}
 use Rattle.sv_sem.specs.RunParts.{Done, bound, entered}
-use Rattle.sv_sem.specs.Calls.{same_view}
+use Rattle.sv_sem.specs.Effects.{same_view}
 use Rattle.sv_sem.specs.Histories.{Prepared, ctor_at, in_ctor, ctor_view, own_ctor, default_state, prepared_own, bound_view}
 use Rattle.sv_sem.specs.FreeValues.{AreLimits, FreeValue}
 use Rattle.sv_sem.specs.WellTyped.{WellState, WellMemory, WellArguments}

@@ -14,11 +14,11 @@ use Rattle.sv_core.specs.PlainCode.{Expr, Act, Stmts, Arms, Exprs, exprs}
 use Rattle.sv_core.specs.PlainCore.{Contract, Function, Modifier, Use, Variable}
 use Rattle.sv_sem.specs.States.{Held, Value, State, View, Choose, or_else, type_of, with_state, less_balance}
 use Rattle.sv_sem.specs.Operators.{is_zero, binary}
-use Rattle.sv_sem.specs.Parts.{Worked, Target, assign, delete, made, new_array}
+use Rattle.sv_sem.specs.NamedParts.{Worked, Target, assign, delete, made, new_array}
 use Rattle.sv_sem.specs.TrueValues.{effect_of}
-use Rattle.sv_sem.specs.Annotations.{Limits, Reading, AllHold, FirstFalse, at_view, at_state, at_end}
+use Rattle.sv_sem.specs.AnnotationTruth.{Limits, Reading, AllHold, FirstFalse, at_view, at_state, at_end}
 use Rattle.sv_sem.specs.RunParts.{End, Done, Broke, Continued, Returned, Setting, func_at, modifier_at, in_function, in_modifier, bound, entered, back_in, into_modifier, at_rest, after_rest, into_results, into_slots}
-use Rattle.sv_sem.specs.Calls.{all_fit, taken, element_type, push_to, push_value_to, pop_from, same_view}
+use Rattle.sv_sem.specs.Effects.{all_fit, taken, element_type, push_to, push_value_to, pop_from, same_view}
 use Rattle.sv_sem.specs.FreeValues.{FreeValue, FreeValues, FreeAmount, FreeTarget, known}
 use Rattle.sv_sem.specs.WellTyped.{WellState, WellMemory, WellView, WellResults}
 use Rattle.sv_sem.specs.Changes.{Changes, LoopChanges, Assigns, Keeps, KeepsLocals}

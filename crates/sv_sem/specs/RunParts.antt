@@ -7,7 +7,7 @@ use Rattle.sv_core.specs.PlainCode as code
 use Rattle.sv_core.specs.PlainCode.{Stmts}
 use Rattle.sv_core.specs.PlainCore.{Contract, Function, Modifier}
 use Rattle.sv_sem.specs.States.{Held, Value, Unset, View, set_local, from_some}
-use Rattle.sv_sem.specs.Parts.{Kept, KeptAll, new_default, moved, all_moved, unassigned, loc_of}
+use Rattle.sv_sem.specs.NamedParts.{Kept, KeptAll, new_default, moved, all_moved, unassigned, loc_of}
 use Rattle.sv_sem.specs.Adversary.{Mark, AtState, AtEnd, Meeting}
 
 -- ---- how a run ends

@@ -5,11 +5,11 @@ use Rattle.sv_core.specs.PlainCode as code
 use Rattle.sv_core.specs.PlainCode.{Expr, Act, Stmts, Arms}
 use Rattle.sv_sem.specs.States.{Held, Value, type_of, kind_of, or_else}
 use Rattle.sv_sem.specs.Operators.{is_zero, tested, binary}
-use Rattle.sv_sem.specs.Parts.{assign, delete}
+use Rattle.sv_sem.specs.NamedParts.{assign, delete}
 use Rattle.sv_sem.specs.TrueValues.{effect_of, value, a_number, target}
 use Rattle.sv_sem.specs.Adversary.{Broken}
 use Rattle.sv_sem.specs.RunParts.{Done, Broke, Continued, Returned, Outcome, Ends, Reverted, Config, Ran, Runner, Rec, Setting, ran, reverted, viewed, ended, marked, next, with_option, paid, at_rest, after_rest, into_results, into_slots}
-use Rattle.sv_sem.specs.Calls.{after_effect}
+use Rattle.sv_sem.specs.Effects.{after_effect}
 
 -- ---- full expressions
 

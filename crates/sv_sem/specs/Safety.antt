@@ -1,7 +1,7 @@
 -- Believed: when a contract is safe. Hold it against the promise of a line `C: holds`, in docs/promises.md.
 use Rattle.std.specs.Prelude.{ℕ, List, [], ◌∷◌}
 use Rattle.sv_core.specs.PlainCore.{Contract}
-use Rattle.sv_sem.specs.Annotations.{true_limits, AllHold, at_view, at_state, at_end}
+use Rattle.sv_sem.specs.AnnotationTruth.{true_limits, AllHold, at_view, at_state, at_end}
 use Rattle.sv_sem.specs.Adversary.{Mark, AtState, AtEnd, Broken}
 use Rattle.sv_sem.specs.Histories.{History, marks_of}
 

@@ -8,7 +8,7 @@ use Rattle.sv_core.specs.PlainCode.{Expr, Exprs}
 use Rattle.sv_core.specs.PlainCore.{Contract}
 use Rattle.sv_sem.specs.States.{Held, Value, View, root, tree_at, local_at, type_of, kind_of, with_some, choose, or_else}
 use Rattle.sv_sem.specs.Operators.{of_bool, is_zero, tested, binary, unary, decides, converted}
-use Rattle.sv_sem.specs.Parts.{at_path, environment, part, element, length_held, settled, Target, ToLocal, ToPath, part_target, path_target, tree_held, is_within}
+use Rattle.sv_sem.specs.NamedParts.{at_path, environment, part, element, length_held, settled, Target, ToLocal, ToPath, part_target, path_target, tree_held, is_within}
 
 -- ---- the one effect of a full expression
 

@@ -6,11 +6,11 @@ use Rattle.sv_type.specs.StorageTrees.{Tree, Num, Map, Entry, Empty}
 use Rattle.sv_type.specs.Memory.{empty_memory}
 use Rattle.sv_core.specs.PlainCore.{Contract}
 use Rattle.sv_sem.specs.States.{Value, Pointer, Unset, State, View, Choose, kind_of, set_local, with_state, with_tree, root}
-use Rattle.sv_sem.specs.Parts.{ToLocal, ToPath}
+use Rattle.sv_sem.specs.NamedParts.{ToLocal, ToPath}
 use Rattle.sv_sem.specs.TrueValues.{limit}
-use Rattle.sv_sem.specs.Annotations.{Limits, true_limits}
+use Rattle.sv_sem.specs.AnnotationTruth.{Limits, true_limits}
 use Rattle.sv_sem.specs.RunParts.{Done, func_at, in_function, entered}
-use Rattle.sv_sem.specs.Calls.{same_view}
+use Rattle.sv_sem.specs.Effects.{same_view}
 use Rattle.sv_sem.specs.Histories.{Prepared, outside_view, default_state, in_ctor, ctor_view, own_ctor, prepared_own}
 use Rattle.sv_sem.specs.FreeValues.{IsLimit, AreLimits}
 use Rattle.sv_sem.specs.WellTyped.{WellMemory, WellView}

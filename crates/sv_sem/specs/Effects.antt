@@ -10,7 +10,7 @@ use Rattle.sv_core.specs.PlainCode.{Expr, Exprs, Maybe, exprs}
 use Rattle.sv_core.specs.PlainCore.{Contract, Function, Modifier, Use}
 use Rattle.sv_sem.specs.States.{Held, Value, Pointer, State, View, with_state, less_balance, type_of}
 use Rattle.sv_sem.specs.Operators.{of_bool}
-use Rattle.sv_sem.specs.Parts.{Worked, KeptAll, pushed, pushed_value, popped, made, new_array, copied_in}
+use Rattle.sv_sem.specs.NamedParts.{Worked, KeptAll, pushed, pushed_value, popped, made, new_array, copied_in}
 use Rattle.sv_sem.specs.TrueValues.{value, values, a_number}
 use Rattle.sv_sem.specs.Adversary.{Mark, AtState, Meeting}
 use Rattle.sv_sem.specs.RunParts.{Done, Outcome, Ends, Reverted, Config, Ran, Runner, Rec, reverted, viewed, marked, with_option, func_at, modifier_at, in_function, in_modifier, bound, entered, results_of, back_in, end_marks, into_modifier, at_rest}

@@ -8,7 +8,7 @@ use Rattle.sv_core.specs.PlainCode.{Expr}
 use Rattle.sv_core.specs.PlainCore.{Contract}
 use Rattle.sv_sem.specs.States.{Held, Value, State, View, root, tree_at, local_at, type_of, kind_of, with_some, choose}
 use Rattle.sv_sem.specs.Operators.{of_bool, is_zero, binary, unary, decides, total}
-use Rattle.sv_sem.specs.Parts.{at_path, environment, part, any_element, length_held}
+use Rattle.sv_sem.specs.NamedParts.{at_path, environment, part, any_element, length_held}
 use Rattle.sv_sem.specs.TrueValues.{literal, limit, a_number}
 
 -- the greatest (true) and the least number of each type. A history has the true ones
