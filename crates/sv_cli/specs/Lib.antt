@@ -7,5 +7,6 @@ pub mod Moved
 pub mod Answered
 pub mod Headline
 pub mod DueLaw
+pub mod KeywordLaw
 pub mod Unread
 pub mod Moving

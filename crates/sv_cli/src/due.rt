@@ -77,7 +77,8 @@ fn let_go<X: Drop>(_x: X) {}
 /// Whether tokens have a tree.
 fn check_tree(alloc: Global, tokens: &Tokens<'_>) -> Result<(), Unread>
     requires { HasNo IsDeep tokens.now.list }
-    ensures { MatchResult result (λ _. HasTree tokens.now.source tokens.now.list) (GivesNoTree tokens.now) }
+    ensures { MatchResult result
+        (λ _. HasTree tokens.now.source tokens.now.list) (GivesNoTree tokens.now) }
 {
     let mut names = Names::new(alloc);
     match parse_unit(alloc, tokens, &mut names) {

@@ -14,32 +14,15 @@ mod moving;
 mod refusal;
 mod report;
 mod top;
+mod words;
 
-use ended::Ended;
+use std::io;
 use std::process::ExitCode;
-use std::{env, io};
 use sv_io::{StdSink, StdSource};
 use sv_term::RuleBook;
 
-/// The words of the command line, without the program's own name.
-fn words(rt: &HostRuntime) -> Result<Vec<String>, Ended> {
-    match env::args(rt) {
-        Ok(args) => args
-            .skip(1)
-            .collect(rt.alloc())
-            .map_err(|_| Ended::NoMemory),
-        Err(refused) => {
-            if refused.kind() == io::ErrorKind::OutOfMemory {
-                Err(Ended::NoMemory)
-            } else {
-                Err(Ended::Usage)
-            }
-        }
-    }
-}
-
 fn main(rt: HostRuntime) -> ExitCode {
-    let ended = match words(&rt) {
+    let ended = match words::words(&rt) {
         Ok(words) => {
             let book = RuleBook::new(rt.alloc());
             let mut source = StdSource::new(rt.reader());

@@ -16,7 +16,8 @@ fn push_line(
     function: &[u8],
     verdict: Verdict,
 ) -> Result<(), NoMemory>
-    ensures { OnOk result (report.new.items ≡ report.old.items ++ line_text contract.now function.now verdict) }
+    ensures { OnOk result
+        (report.new.items ≡ report.old.items ++ line_text contract.now function.now verdict) }
 {
     let verdict = format!(in alloc; "{verdict}")?;
     report.extend_from_slice(contract)?;
