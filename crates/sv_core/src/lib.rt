@@ -6,16 +6,18 @@
 #![tactic(auto)]
 
 mod contract;
+mod copies;
 mod expr;
-mod expr_copies;
 mod label;
 mod rule;
 mod stat;
 mod target;
 
-pub use contract::{BaseArgs, Core, CtorInfo, FuncInfo, LocalInfo, ModInfo, ModUse, VarInfo, VarKind};
+pub use contract::{
+    BaseArgs, Core, CtorInfo, FuncInfo, LocalInfo, ModInfo, ModUse, VarInfo, VarKind,
+};
+pub use copies::copy_expr;
 pub use expr::{CExpr, CKind, EnvName, Loc, Op, OutKind};
-pub use expr_copies::copy_expr;
 pub use label::{FuncId, Label, Site};
 pub use rule::{Refusal, Rule, RuleFault};
 pub use stat::{Arm, Stat, StatKind};
