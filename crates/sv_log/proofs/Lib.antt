@@ -1,4 +1,3 @@
 pub mod Amounts
 pub mod FormAmounts
 pub mod Soundness
-pub mod Examples
