@@ -127,7 +127,8 @@ impl Fraction {
     }
 
     fn negated(self) -> Option<Fraction>
-        ensures { MatchOption result (IsI128 (neg_ℤ self.top) → ⊥) (λ g. IsReduced self × IsReduced g × (g ≡ ratio (neg_ℤ self.top) self.under)) }
+        ensures { MatchOption result (IsI128 (neg_ℤ self.top) → ⊥)
+            (λ g. IsReduced self × IsReduced g × (g ≡ ratio (neg_ℤ self.top) self.under)) }
     {
         let top = self.top.checked_neg()?;
         Some(Fraction {

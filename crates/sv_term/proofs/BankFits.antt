@@ -1,16 +1,16 @@
 -- The nodes that fit are those whose trees fit.
-use Rattle.std.proofs.Common.{ℕ, zero, suc, ◌<◌, ◌≤◌, Bool, true, false, not, ◌&&◌, ◌||◌, nat_eq, nat_lt, nat_le, List, [], ◌∷◌, ◌≡◌, ◌↔◌, length, slice_get, Some, refl, sym, ap, ap₂, ◌∙◌, subst, arith}
+use Rattle.std.proofs.Common.{ℕ, zero, suc, ◌<◌, ◌≤◌, true, ◌&&◌, nat_lt, nat_le, List, [], ◌∷◌, ◌≡◌, ◌↔◌, length, refl, sym, ap, ap₂, ◌∙◌, subst, arith}
 use Rattle.std.proofs.lemmas.Bool.Decides.{nat_tests}
 use Rattle.sv_term.specs.Sorts.{Any, Low, Bits, Sort, NumSort, BoolSort, ArrSort, TupSort, Sorts, NoSorts, SortAnd, same_sort, is_num, is_bool, is_array, is_tuple, is_sort, are_sorts, is_range, element, parts, count, matches, all_match}
 use Rattle.sv_term.specs.Terms.{Shape, Term, Terms, End, More, App, one, two, three, sort_of, sorts_of, fits_node, fits, all_fit}
 use Rattle.sv_term.specs.Terms as t
-use Rattle.sv_term.specs.Banks.{Nodes, SortRow, NumRow, BoolRow, ArrRow, TupRow, sort, term, tree, sort_tree, parts_by, args_by, wide, all_wide, kind_of, IsSort, AreSorts, IsTerm, AreTerms, sorts_named, args, sort_parts, IsNamed, IsNumber, IsBool, IsArray, AreKin, IsElement, FillsSort, ArePartsOf, HasPart, IsSummed, Fits, SortFits, AreBelow, SortsAreBelow, IsPlaced, IsPlacedSort, IsSound}
+use Rattle.sv_term.specs.Banks.{Nodes, SortRow, NumRow, BoolRow, ArrRow, TupRow, sort, term, tree, sort_tree, parts_by, args_by, wide, all_wide, IsSort, AreSorts, IsTerm, AreTerms, args, sort_parts, IsNamed, IsNumber, IsBool, IsArray, AreKin, Fits, SortFits, AreBelow, SortsAreBelow, IsSound}
 use Rattle.sv_term.specs.Sorts as d
 use Rattle.sv_term.specs.declared.node.SortId.{SortId}
 use Rattle.sv_term.specs.declared.node.TermId.{TermId}
 use Rattle.sv_term.specs.declared.node.Node.{Node}
 use Rattle.sv_term.specs.declared.node.Node.TheVariants as n
-use Rattle.sv_term.proofs.Same.{both_true, and_true, sort_is, sort_self}
+use Rattle.sv_term.proofs.Same.{both_true, and_true, sort_is}
 use Rattle.sv_term.proofs.BankLists.{here}
 use Rattle.sv_term.proofs.NodeTrees.{fits_sorts, fits_terms, are_below}
 use Rattle.sv_term.proofs.Wide.{array_wide, tuple_wide, number_of_wide, wide_number, bool_of_wide, wide_bool, same_wide, wide_same}

@@ -1,11 +1,11 @@
 -- What a bank meets is kept as it grows.
-use Rattle.std.proofs.Common.{ℕ, zero, suc, ◌+◌, ◌<◌, ◌≤◌, Bool, true, List, [], ◌∷◌, ◌++◌, ◌≡◌, ◌⊎◌, inl, inr, length, map, slice_get, Some, refl, sym, ap, ap₂, ◌∙◌, subst, length-append, take, take_all, arith}
+use Rattle.std.proofs.Common.{ℕ, suc, ◌+◌, ◌<◌, List, [], ◌∷◌, ◌++◌, ◌≡◌, ◌⊎◌, inl, inr, length, slice_get, Some, refl, sym, ap, ap₂, ◌∙◌, subst, length-append, take, take_all, arith}
 use Rattle.std.proofs.lemmas.List.{get_or_append_left, get_or_push, take_at, take-take}
 use Rattle.sv_term.specs.Sorts.{Sort, NumSort, BoolSort, ArrSort, TupSort, Sorts, is_num, is_array, is_tuple, element, parts, count}
 use Rattle.sv_term.specs.Sorts as d
 use Rattle.sv_term.specs.Terms.{Term, sort_of, sorts_of}
 use Rattle.sv_term.specs.Terms as t
-use Rattle.sv_term.specs.Banks.{Nodes, SortRow, NumRow, BoolRow, ArrRow, TupRow, sort_in, term_in, sort_by, term_by, args_by, sorts_from, terms_from, sort, term, tree, sort_tree, sort_list, term_list, IsSort, AreSorts, IsTerm, AreTerms, sorts_named, args, sort_parts, wide, all_wide, kind_of, IsNumber, IsBool, IsArray, AreKin, IsElement, FillsSort, ArePartsOf, HasPart, IsSummed, Fits, SortFits, Keeps, Stands, IsKind, IsPlaced, IsPlacedSort, AllDiffer, IsSound, KindsAre}
+use Rattle.sv_term.specs.Banks.{Nodes, SortRow, NumRow, BoolRow, ArrRow, TupRow, sort_in, term_in, sort_by, term_by, sorts_from, terms_from, sort, term, tree, sort_tree, IsSort, AreSorts, IsTerm, AreTerms, sorts_named, args, sort_parts, wide, all_wide, kind_of, IsNumber, IsBool, IsArray, AreKin, IsElement, FillsSort, ArePartsOf, HasPart, IsSummed, Fits, SortFits, Keeps, Stands, IsKind, IsPlaced, IsPlacedSort, AllDiffer, IsSound, KindsAre}
 use Rattle.sv_term.specs.declared.node.SortId.{SortId}
 use Rattle.sv_term.specs.declared.node.TermId.{TermId}
 use Rattle.sv_term.specs.declared.node.Node.{Node}

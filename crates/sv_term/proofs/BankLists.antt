@@ -1,5 +1,5 @@
 -- Lists of numbers of a bank, and the trees that they stand for.
-use Rattle.std.proofs.Common.{ℕ, zero, suc, ◌+◌, ◌<◌, ◌≤◌, List, [], ◌∷◌, ◌++◌, ◌≡◌, ◌⊎◌, inl, inr, length, map, get_or, set, slice_get, Some, refl, sym, ap, ap₂, ◌∙◌, arith}
+use Rattle.std.proofs.Common.{ℕ, zero, suc, ◌<◌, ◌≤◌, List, [], ◌∷◌, ◌++◌, ◌≡◌, ◌⊎◌, inl, inr, length, map, get_or, set, slice_get, Some, refl, ap, ap₂, arith}
 use Rattle.sv_term.specs.Sorts.{Sort, BoolSort}
 use Rattle.sv_term.specs.Terms.{Term}
 use Rattle.sv_term.specs.Banks.{Nodes, sort, term, sort_list, term_list, IsSort, AreSorts, IsTerm, AreTerms}

@@ -1,9 +1,8 @@
 -- A clone of a node is that node, and one of a sort's node the same as plain data.
-use Rattle.std.proofs.Common.{◌≡◌, ℕ, Bool, List, [], ◌∷◌, map, refl, ap, ap₂}
+use Rattle.std.proofs.Common.{◌≡◌, List, [], ◌∷◌, map, refl, ap, ap₂}
 use Rattle.std.specs.List.{AllZip}
-use Rattle.sv_term.specs.Banks.{SortRow, NumRow, BoolRow, ArrRow, TupRow, range_of, row_of, Nodes}
+use Rattle.sv_term.specs.Banks.{NumRow, ArrRow, TupRow, range_of, row_of}
 use Rattle.sv_term.specs.declared.node.SortId.{SortId}
-use Rattle.sv_term.specs.declared.node.TermId.{TermId}
 use Rattle.sv_term.specs.declared.node.SortNode.{SortNode}
 use Rattle.sv_term.specs.declared.node.SortNode.TheVariants as s
 use Rattle.sv_term.specs.declared.node.Node.{Node}

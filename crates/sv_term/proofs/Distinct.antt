@@ -1,7 +1,6 @@
 -- No two numbers of a bank stand for one sort, or for one term.
-use Rattle.std.proofs.Common.{ℕ, zero, suc, ◌<◌, ◌≤◌, List, [], ◌∷◌, ◌≡◌, length, slice_get, Some, refl, sym, ap, ap₂, ◌∙◌, subst, arith}
-use Rattle.sv_term.specs.Sorts.{Range, Sort, NumSort, BoolSort, ArrSort, TupSort, Sorts, NoSorts, SortAnd}
-use Rattle.sv_term.specs.Banks.{Nodes, SortRow, NumRow, BoolRow, ArrRow, TupRow, parts_by, sort_by, sort, IsSort, AreSorts, sort_parts, SortsAreBelow, IsPlacedSort, IsSound, SortFits}
+use Rattle.std.proofs.Common.{ℕ, zero, suc, ◌<◌, List, [], ◌∷◌, ◌≡◌, Some, refl, sym, ap, ap₂, ◌∙◌, arith}
+use Rattle.sv_term.specs.Banks.{Nodes, SortRow, NumRow, BoolRow, ArrRow, TupRow, parts_by, sort_by, sort, IsSort, AreSorts, sort_parts, SortsAreBelow, IsSound}
 use Rattle.sv_term.specs.declared.node.SortId.{SortId}
 use Rattle.sv_term.proofs.BankLists.{here}
 use Rattle.sv_term.proofs.NodeTrees.{sort_fits_sorts}

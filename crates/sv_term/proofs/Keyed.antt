@@ -1,5 +1,5 @@
 -- The places of keys in a table.
-use Rattle.std.proofs.Common.{ℕ, zero, suc, ◌<◌, ◌≤◌, Bool, true, false, cond, ◌||◌, List, [], ◌∷◌, ◌++◌, ◌≡◌, inl, inr, length, map, slice_get, position, Option, Some, None, is_some, refl, sym, ap, ◌∙◌, subst, if◌then◌else◌, true≢false, arith}
+use Rattle.std.proofs.Common.{ℕ, zero, suc, Bool, true, false, cond, ◌||◌, List, [], ◌∷◌, ◌++◌, ◌≡◌, inl, inr, length, map, slice_get, position, Option, Some, is_some, refl, ap, ◌∙◌, subst, if◌then◌else◌, arith}
 use Rattle.std.specs.List.{list_any}
 use Rattle.std.specs.Map.{keys_of, lookup}
 use Rattle.std.proofs.lemmas.List.Quantifiers.{position-Some}

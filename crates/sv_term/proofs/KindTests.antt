@@ -1,8 +1,8 @@
 -- The tests of kinds say whether a node fits.
-use Rattle.std.proofs.Common.{ℕ, zero, suc, ◌<◌, ◌≤◌, Bool, true, false, not, ◌&&◌, nat_eq, nat_lt, List, [], ◌∷◌, ◌≡◌, ◌↔◌, length, refl, sym, ap, ap₂, ◌∙◌, subst, true≢false, IsTrue, arith}
-use Rattle.sv_term.specs.Sorts.{Any, Sort, NumSort, BoolSort, ArrSort, TupSort, Sorts, NoSorts, SortAnd, is_num, is_array, is_tuple, element, parts, count}
-use Rattle.sv_term.specs.Terms.{sort_of, sorts_of}
-use Rattle.sv_term.specs.Banks.{Nodes, sort, term, wide, all_wide, kind_of, parts_by, args_by, IsSort, AreSorts, IsTerm, AreTerms, IsNumber, IsBool, IsArray, AreKin, IsElement, FillsSort, ArePartsOf, HasPart, IsSummed, IsKind, IsSound}
+use Rattle.std.proofs.Common.{ℕ, suc, ◌<◌, Bool, true, false, ◌&&◌, nat_eq, List, [], ◌∷◌, ◌≡◌, ◌↔◌, length, refl, sym, ap, ap₂, ◌∙◌, subst, true≢false, IsTrue, arith}
+use Rattle.sv_term.specs.Sorts.{Any, Sort, NumSort, BoolSort, ArrSort, TupSort, Sorts, NoSorts, SortAnd, is_array, is_tuple, element, parts, count}
+use Rattle.sv_term.specs.Terms.{sort_of}
+use Rattle.sv_term.specs.Banks.{Nodes, sort, term, wide, all_wide, kind_of, parts_by, IsSort, IsTerm, IsNumber, IsBool, IsArray, AreKin, IsElement, FillsSort, ArePartsOf, HasPart, IsSummed, IsKind, IsSound}
 use Rattle.sv_term.specs.NodeKinds.{IsOfKind, HasKind, HasElements, HasItems, IsKnown, AreParts, IsPart, same_kind, is_arr, count_of}
 use Rattle.sv_term.specs.declared.node.SortId.{SortId}
 use Rattle.sv_term.specs.declared.node.TermId.{TermId}
@@ -10,7 +10,7 @@ use Rattle.sv_term.specs.declared.bank.fitting.Kind.{Kind}
 use Rattle.sv_term.specs.declared.bank.fitting.Kind.TheVariants as k
 use Rattle.sv_term.proofs.Same.{both_true, and_true, same_nat, nat_same}
 use Rattle.sv_term.proofs.NodeEquality.{sort_id_is}
-use Rattle.sv_term.proofs.Wide.{array_wide, tuple_wide, number_of_wide, wide_number}
+use Rattle.sv_term.proofs.Wide.{array_wide, number_of_wide, wide_number}
 use Rattle.sv_term.proofs.Distinct.{sorts_apart}
 
 pub both_say : {A B : Type 0} (p q r : Bool) → (IsTrue p ↔ A) → (IsTrue q ↔ B) → r ≡ (p && q) → IsTrue r ↔ (A × B)

@@ -1,12 +1,11 @@
 -- The derived tests of equality of nodes tell what they say.
 use Rattle.std.proofs.Common.{ℕ, Bool, true, false, ◌&&◌, nat_eq, List, [], ◌∷◌, ◌≡◌, map, slice_get, Some, refl, sym, ap, ap₂, ◌∙◌, subst}
-use Rattle.std.specs.Bool.{Decides}
 use Rattle.std.specs.Ordering.{on}
 use Rattle.std.specs.Cmp.Lexicographic.{pointwise}
 use Rattle.sv_term.specs.Sorts.{same_bool}
 use Rattle.sv_term.specs.Sorts as d
 use Rattle.sv_term.specs.Ids.{id_decides}
-use Rattle.sv_term.specs.Banks.{StandsIn, SortRow, NumRow, BoolRow, ArrRow, TupRow, range_of, row_of}
+use Rattle.sv_term.specs.Banks.{StandsIn, NumRow, ArrRow, TupRow, range_of, row_of}
 use Rattle.sv_term.specs.declared.node.SortId.{SortId}
 use Rattle.sv_term.specs.declared.node.TermId.{TermId}
 use Rattle.sv_term.specs.declared.node.Range as range

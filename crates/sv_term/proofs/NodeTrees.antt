@@ -1,10 +1,9 @@
 -- The tree of a node, as what its parts stand for stays.
-use Rattle.std.proofs.Common.{ℕ, ◌<◌, ◌≤◌, List, [], ◌∷◌, ◌≡◌, length, refl, ap, ap₂, arith}
-use Rattle.sv_term.specs.Sorts.{Sort, NumSort, BoolSort, ArrSort, TupSort, Sorts, NoSorts, SortAnd}
+use Rattle.std.proofs.Common.{ℕ, ◌≤◌, List, [], ◌∷◌, ◌≡◌, length, refl, ap, ap₂, arith}
+use Rattle.sv_term.specs.Sorts.{Sort, ArrSort, TupSort, SortAnd}
 use Rattle.sv_term.specs.Terms.{Term, Terms, End, More}
 use Rattle.sv_term.specs.Terms as t
 use Rattle.sv_term.specs.Banks.{Nodes, SortRow, NumRow, BoolRow, ArrRow, TupRow, parts_by, sort_by, args_by, term_by, sorts_named, args, sort_parts, IsSort, AreSorts, IsTerm, AreTerms, AreBelow, SortsAreBelow, Fits, SortFits}
-use Rattle.sv_term.specs.Sorts as d
 use Rattle.sv_term.specs.declared.node.SortId.{SortId}
 use Rattle.sv_term.specs.declared.node.TermId.{TermId}
 use Rattle.sv_term.specs.declared.node.Node.{Node}

@@ -1,7 +1,7 @@
 -- The numbers of sorts that the code finds for a node.
 use Rattle.std.proofs.Common.{ℕ, zero, suc, ◌<◌, Bool, true, false, cond, nat_eq, List, [], ◌∷◌, ◌≡◌, length, get_or, refl, sym, ap, ◌∙◌, subst, true≢false, arith}
-use Rattle.sv_term.specs.Sorts.{Sort, NumSort, BoolSort, ArrSort, TupSort, Any, same_sort, is_tuple, parts, count, sort_at}
-use Rattle.sv_term.specs.Banks.{Nodes, SortRow, TupRow, sort, sort_tree, wide, parts_by, IsSort, AreSorts, IsKind, IsPlacedSort}
+use Rattle.sv_term.specs.Sorts.{Sort, NumSort, TupSort, Any, same_sort, is_tuple, parts, count, sort_at}
+use Rattle.sv_term.specs.Banks.{Nodes, TupRow, sort, wide, parts_by, IsSort, AreSorts, IsKind, IsPlacedSort}
 use Rattle.sv_term.specs.declared.node.SortId.{SortId}
 use Rattle.sv_term.proofs.Same.{sort_is, sort_self, nat_same}
 use Rattle.sv_term.proofs.NodeEquality.{sort_id_is}

@@ -1,7 +1,7 @@
 -- Sorts as nodes look at them: two sorts of numbers count as one.
-use Rattle.std.proofs.Common.{ℕ, zero, suc, ◌<◌, Bool, true, false, cond, ◌&&◌, ◌||◌, List, [], ◌∷◌, ◌≡◌, length, get_or, refl, sym, ap, ap₂, ◌∙◌, subst, arith}
-use Rattle.sv_term.specs.Sorts.{Range, Any, Sort, NumSort, BoolSort, ArrSort, TupSort, Sorts, NoSorts, SortAnd, same_sort, is_num, is_bool, is_array, is_tuple, element, parts, count, sort_at, matches}
-use Rattle.sv_term.specs.Banks.{wide, all_wide, parts_by}
+use Rattle.std.proofs.Common.{ℕ, zero, suc, ◌<◌, true, false, ◌||◌, List, [], ◌∷◌, ◌≡◌, length, get_or, refl, sym, ap, subst, arith}
+use Rattle.sv_term.specs.Sorts.{Any, Sort, NumSort, BoolSort, ArrSort, TupSort, same_sort, is_num, is_bool, is_array, is_tuple, count, sort_at, matches}
+use Rattle.sv_term.specs.Banks.{wide, parts_by}
 use Rattle.sv_term.specs.declared.node.SortId.{SortId}
 use Rattle.sv_term.proofs.Same.{sort_is, sort_self}
 

@@ -1,7 +1,6 @@
 -- Values of closed terms, and tests of terms, by computing.
 use Rattle.std.proofs.Common.{refl}
-use Rattle.sv_term.specs.Models.{Model}
-use Rattle.sv_term.specs.WorkedValues.{ValuesAtEdges, TestsOfTerms, ValuesAreWorked}
+use Rattle.sv_term.specs.WorkedValues.{TestsOfTerms, ValuesAreWorked}
 
 pub values_are_worked : ValuesAreWorked
 values_are_worked m = record {

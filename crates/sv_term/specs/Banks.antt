@@ -1,5 +1,5 @@
--- Believed: what a number of a bank stands for, and what a bank keeps. Which nodes fit need not be believed: a law says that they are those whose trees fit.
-use Rattle.std.specs.Prelude.{ℕ, ◌+◌, ◌<◌, ◌≤◌, Bool, true, false, List, [], ◌∷◌, ◌++◌, ◌≡◌, length, take, map, slice_index_or, slice_get, Some}
+-- Believed: what a number of a bank stands for, and what a bank keeps. Hold it against the README's table of nodes; which nodes fit is a law.
+use Rattle.std.specs.Prelude.{ℕ, ◌<◌, ◌≤◌, true, false, List, [], ◌∷◌, ◌++◌, ◌≡◌, length, take, map, slice_index_or, slice_get, Some}
 use Rattle.sv_term.specs.Sorts.{Range, Sort, NumSort, BoolSort, ArrSort, TupSort, Sorts, NoSorts, SortAnd, is_num, is_array, is_tuple, element, parts, count}
 use Rattle.sv_term.specs.Sorts as d
 use Rattle.sv_term.specs.Terms.{Term, Terms, End, More, sort_of, sorts_of}

@@ -1,4 +1,4 @@
--- Believed: the test whether the rule of a number gives a fact from premises. Nothing has to be held against it: that it says exactly what the table says is proved.
+-- Serves the proof: the test whether the rule of a number gives a fact from premises. That it says exactly what the table says is a law.
 use Rattle.std.specs.Prelude.{ℕ, zero, suc, Bool, true, false, cond, ◌&&◌, nat_eq, ◌≡◌, ◌↔◌, List, [], ◌∷◌}
 use Rattle.sv_term.specs.Sorts.{Sort, BoolSort, same_bool}
 use Rattle.sv_term.specs.Terms.{Shape, LitNode, WrapNode, ConstNode, TupNode, GetNode, Term, App, Terms, Truth, same_term, term_at}

@@ -1,5 +1,5 @@
 -- Serves the proof: two numbers of terms are equal exactly where what they hold is.
-use Rattle.std.specs.Prelude.{ℕ, nat_eq, ◌≡◌}
+use Rattle.std.specs.Prelude.{nat_eq, ◌≡◌}
 use Rattle.std.specs.Bool.{Decides}
 use Rattle.std.proofs.Common.{ap}
 use Rattle.std.proofs.lemmas.Bool.Decides.{Decides-eqb}

@@ -9,5 +9,6 @@ pub mod ModelMaking
 pub mod WorkedValues
 pub mod Banks
 pub mod NodeKinds
+pub mod BankSteps
 pub mod Ids
 pub mod Book

@@ -1,4 +1,4 @@
--- Believed: what models can be made of, arrays made from entries, and what a value depends on, as laws. Hold each against the sentence above it.
+-- Believed: what models can be made of, arrays made from entries, and what a value depends on, as laws. Hold it against the sentence above it.
 use Rattle.std.specs.Prelude.{ℕ, false, cond, ◌≡◌, List, [], ◌∷◌, ℤ, pos}
 use Rattle.std.specs.Ordering.{int_eq}
 use Rattle.sv_term.specs.Sorts.{Sort, NumSort, BoolSort, ArrSort, TupSort, Sorts, NoSorts, SortAnd}

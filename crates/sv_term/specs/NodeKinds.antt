@@ -1,6 +1,6 @@
 -- Serves the proof: what the code knows of a sort when it asks whether a node fits.
-use Rattle.std.specs.Prelude.{ℕ, ◌<◌, Bool, true, false, not, ◌&&◌, nat_eq, List, [], ◌∷◌, ◌≡◌, length}
-use Rattle.sv_term.specs.Sorts.{Any, Sort, NumSort, BoolSort, ArrSort, TupSort, Sorts, NoSorts, SortAnd, is_array, is_tuple, element, parts, count}
+use Rattle.std.specs.Prelude.{ℕ, Bool, true, false, nat_eq, List, ◌≡◌}
+use Rattle.sv_term.specs.Sorts.{Any, Sort, NumSort, BoolSort, is_array, is_tuple, element, parts, count}
 use Rattle.sv_term.specs.Terms.{sort_of, sorts_of}
 use Rattle.sv_term.specs.Banks.{Nodes, sort, term, wide, all_wide, kind_of, IsSort, IsTerm, AreTerms, args_by, parts_by}
 use Rattle.sv_term.specs.declared.node.SortId.{SortId}

@@ -1,4 +1,4 @@
--- Believed: laws of values and terms, each the contract of a function of `laws`. Hold each against the sentence above it.
+-- Believed: laws of values and terms, each the contract of a function of `laws`. Hold it against the sentence above it.
 use Rattle.std.specs.Prelude.{ℕ, ◌^◌, ◌≤◌, Bool, true, ◌≡◌, ◌↔◌, ℤ, pos, ◌+ℤ◌, ◌*ℤ◌}
 use Rattle.sv_term.specs.Sorts.{Bits, Sort, ArrSort, is_num, is_in}
 use Rattle.sv_term.specs.Values.{Value, Number, same_value, read, IsOf, default_of, wrapped}

@@ -1,10 +1,10 @@
--- Believed: values of closed terms at edges, worked out by hand, and what the tests say of terms. Hold each against the README's table of nodes.
-use Rattle.std.specs.Prelude.{ℕ, Bool, true, false, ◌≡◌, ℤ, pos, negsuc, List, [], ◌∷◌}
-use Rattle.sv_term.specs.Sorts.{Range, Any, Low, Bits, Sort, NumSort, BoolSort, ArrSort, TupSort, Sorts, NoSorts, SortAnd}
-use Rattle.sv_term.specs.Values.{Value, Number, Flag, Array, Entries, Empty, Entry}
-use Rattle.sv_term.specs.Terms.{Term, Terms, End, More, Lit, Truth, Var, Add, Sub, Mul, Div, Mod, Wrap, Le, Eq, Not, And, Or, Ite, Sel, Sto, Const, Mix, Tup, Get, Sum, fits, sort_of, is_plain}
+-- Believed: values of closed terms at edges, worked out by hand, and what the tests say of terms. Hold it against the README's table of nodes.
+use Rattle.std.specs.Prelude.{ℕ, true, false, ◌≡◌, pos, negsuc, [], ◌∷◌}
+use Rattle.sv_term.specs.Sorts.{Any, Low, Bits, Sort, NumSort, BoolSort, ArrSort, TupSort, NoSorts, SortAnd}
+use Rattle.sv_term.specs.Values.{Number, Flag, Array, Empty, Entry}
+use Rattle.sv_term.specs.Terms.{Term, End, More, Lit, Truth, Var, Add, Sub, Mul, Div, Mod, Wrap, Le, Eq, Not, And, Or, Ite, Sel, Sto, Const, Mix, Tup, Get, Sum, fits, sort_of, is_plain}
 use Rattle.sv_term.specs.Models.{Model, value}
-use Rattle.sv_term.specs.FactRules.{Fact, Says}
+use Rattle.sv_term.specs.FactRules.{Says}
 use Rattle.sv_term.specs.FactRuleTest.{is_by_rule}
 
 abbrev pub num : ℕ → Term

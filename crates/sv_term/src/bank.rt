@@ -3,6 +3,7 @@ ghost use Rattle.sv_term.specs.declared.node.TermId.{TermId};
 ghost use Rattle.sv_term.specs.declared.node.SortId.{SortId};
 ghost use Rattle.sv_term.specs.declared.node.Node.{Node};
 ghost use Rattle.sv_term.specs.Terms.{sort_of, fits};
+ghost use Rattle.sv_term.specs.BankSteps.{AddsNode, AddsSort, FindsNode, FindsSort, IsNewNode};
 ghost use Rattle.sv_term.specs.Banks.{Nodes, row_of, term, sort, tree, sort_tree, IsTerm, IsSort, Fits, SortFits, Keeps, Stands, IsKind, IsPlaced, IsPlacedSort, IsNamed, AllDiffer, StandsIn};
 
 mod fitting;
@@ -26,6 +27,7 @@ pub struct Bank {
 impl Model for Bank {
     ghost use Rattle.std.specs.Prelude.{map};
     ghost use Rattle.indexmap.specs.IndexMap.{keys};
+    ghost use Rattle.sv_term.specs.BankSteps.{AddsNode, AddsSort, FindsNode, FindsSort, IsNewNode};
     ghost use Rattle.sv_term.specs.Banks.{Nodes, row_of, IsSound, KindsAre};
 
     ghost Value = { Nodes };
@@ -94,16 +96,14 @@ impl Bank {
     }
 
     fn find_sort(&self, node: &SortNode) -> Option<SortId>
-        ensures row { MatchOption result (StandsIn self.now.sorts (row_of node.now) → ⊥) (λ k. slice_get self.now.sorts k.0 ≡ Some (row_of node.now)) }
-        ensures kind { IfSome result (λ k. IsKind self.now k (sort_tree self.now (row_of node.now))) }
+        ensures { FindsSort self.now (row_of node.now) result }
     {
         let number = self.sorts.get_index_of(node)?;
         Some(SortId(number))
     }
 
     fn find(&self, node: &Node) -> Option<TermId>
-        ensures node { MatchOption result (StandsIn self.now.nodes node.now → ⊥) (λ k. slice_get self.now.nodes k.0 ≡ Some node.now) }
-        ensures stands { IfSome result (λ k. Stands self.now k (tree self.now node.now)) }
+        ensures { FindsNode self.now node.now result }
     {
         let number = self.nodes.get_index_of(node)?;
         Some(TermId(number))
@@ -112,12 +112,7 @@ impl Bank {
     fn push_sort(&mut self, node: SortNode) -> Result<SortId, NoMemory>
         requires fits { SortFits self.old (row_of node) }
         requires absent { StandsIn self.old.sorts (row_of node) → ⊥ }
-        ensures kept { Keeps self.old self.new }
-        ensures nodes { self.new.nodes ≡ self.old.nodes }
-        ensures row { IfOk result (λ k. slice_get self.new.sorts k.0 ≡ Some (row_of node)) }
-        ensures kind { IfOk result (λ k. IsKind self.new k (sort_tree self.old (row_of node))) }
-        ensures last { OnOk result (self.new.sorts ≡ self.old.sorts ++ row_of node ∷ []) }
-        ensures err { OnErr result (self.new ≡ self.old) }
+        ensures { AddsSort self.old (row_of node) result self.new }
     {
         let number = self.sorts.len();
         self.sorts.insert_full(node)?;
@@ -125,14 +120,8 @@ impl Bank {
     }
 
     fn push(&mut self, node: Node, sort: SortId) -> Result<TermId, NoMemory>
-        requires fits { Fits self.old node }
-        requires kind { IsKind self.old sort (sort_of (tree self.old node)) }
-        requires absent { StandsIn self.old.nodes node → ⊥ }
-        ensures kept { Keeps self.old self.new }
-        ensures node { IfOk result (λ k. slice_get self.new.nodes k.0 ≡ Some node) }
-        ensures stands { IfOk result (λ k. Stands self.new k (tree self.old node)) }
-        ensures last { OnOk result (self.new.nodes ≡ self.old.nodes ++ node ∷ []) }
-        ensures err { OnErr result (self.new ≡ self.old) }
+        requires { IsNewNode self.old node sort }
+        ensures { AddsNode self.old node result self.new }
     {
         let number = self.nodes.len();
         self.nodes.insert(node, sort)?;

@@ -2,6 +2,7 @@ ghost use Rattle.std.specs.Prelude.{◌≡◌, IfOk, cond};
 ghost use Rattle.sv_term.specs.declared.node.SortId.{SortId};
 ghost use Rattle.sv_term.specs.Sorts.{NumSort, BoolSort, Any, same_sort, element, parts, sort_at};
 ghost use Rattle.sv_term.specs.Terms.{sort_of};
+ghost use Rattle.sv_term.specs.BankSteps.{GivesSort, joined};
 ghost use Rattle.sv_term.specs.Banks.{term, tree, IsTerm, IsArray, HasPart, Fits, Keeps, IsKind};
 
 use crate::bank::Bank;
@@ -12,9 +13,7 @@ impl Bank {
     /// The sort of a node that fits. It may be new in the bank.
     pub(crate) fn sort_for(&mut self, node: &Node) -> Result<SortId, NoMemory>
         requires { Fits self.old node.now }
-        ensures kept { Keeps self.old self.new }
-        ensures nodes { self.new.nodes ≡ self.old.nodes }
-        ensures kind { IfOk result (λ k. IsKind self.new k (sort_of (tree self.old node.now))) }
+        ensures { GivesSort self.old (sort_of (tree self.old node.now)) result self.new }
     {
         match node {
             Node::Lit(_, _) => Ok(self.number_sort()?),
@@ -62,11 +61,9 @@ impl Bank {
 
     /// The sort of a choice: that of both terms where it is one, and else that of all numbers.
     fn joined_sort(&mut self, a: TermId, b: TermId) -> Result<SortId, NoMemory>
-        requires left { IsTerm self.old a }
-        requires right { IsTerm self.old b }
-        ensures kept { Keeps self.old self.new }
-        ensures nodes { self.new.nodes ≡ self.old.nodes }
-        ensures kind { IfOk result (λ k. IsKind self.new k (cond (same_sort (sort_of (term self.old a)) (sort_of (term self.old b))) (sort_of (term self.old a)) (NumSort Any))) }
+        requires { IsTerm self.old a × IsTerm self.old b }
+        ensures { GivesSort self.old
+            (joined (sort_of (term self.old a)) (sort_of (term self.old b))) result self.new }
     {
         let left = self.sort_of(a);
         if left == self.sort_of(b) {

@@ -207,7 +207,8 @@ impl Bank {
     }
 
     fn stores(&self, a: TermId, i: TermId, v: TermId) -> bool
-        ensures { IsTrue result ↔ (IsArray self.now a × IsNumber self.now i × IsElement self.now a v) }
+        ensures { IsTrue result
+            ↔ (IsArray self.now a × IsNumber self.now i × IsElement self.now a v) }
     {
         let _ = &self.sorts;
         let array = self.kind(a);

@@ -1,4 +1,3 @@
-use Rattle.std.proofs.Common.{subst}
 use Rattle.sv_term.proofs.KindTests.{both_say}
 use Rattle.sv_term.proofs.bank.Bank.are_numbers.Goals as goal
 

@@ -1,4 +1,3 @@
-use Rattle.std.proofs.Common.{subst}
 use Rattle.sv_term.proofs.KindTests.{array_says}
 use Rattle.sv_term.proofs.bank.Bank.is_array.Goals as goal
 

@@ -1,9 +1,5 @@
-use Rattle.std.proofs.Common.{subst, ◌≡◌, ◌↔◌, true}
-use Rattle.sv_term.specs.declared.node.SortId.{SortId}
-use Rattle.sv_term.specs.declared.node.TermId.{TermId}
-use Rattle.sv_term.specs.declared.node.Node.{Node}
-use Rattle.sv_term.specs.Terms.{fits}
-use Rattle.sv_term.specs.Banks.{term, sort, tree, IsTerm, IsSort, IsNamed, Fits, IsSound}
+use Rattle.std.proofs.Common.{subst}
+use Rattle.sv_term.specs.Banks.{IsSound}
 use Rattle.sv_term.proofs.BankFits.{terms_fit, fits_is}
 use Rattle.sv_term.proofs.Distinct.{sorts_apart}
 use Rattle.sv_term.proofs.bank.Bank.is_sound.Goals as goal

@@ -1,5 +1,4 @@
 use Rattle.std.proofs.Common.{◌<◌, length, subst, sym, arith}
-use Rattle.sv_term.specs.declared.node.SortId.{SortId}
 use Rattle.sv_term.specs.Sorts.{parts, sort_at}
 use Rattle.sv_term.specs.Terms.{sort_of}
 use Rattle.sv_term.specs.Banks.{term, row_of, TupRow, IsKind, IsPlacedSort}

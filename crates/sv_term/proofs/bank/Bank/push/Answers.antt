@@ -1,10 +1,10 @@
-use Rattle.std.proofs.Common.{subst, sym, ap, ◌∙◌, ◌≡◌, ◌++◌, ◌∷◌, [], map, slice_get, Some, length, refl, List}
+use Rattle.std.proofs.Common.{rules, subst, sym, ap, ◌∙◌, ◌≡◌, ◌++◌, ◌∷◌, [], map, slice_get, length, refl}
 use Rattle.indexmap.specs.IndexMap.{keys}
 use Rattle.std.specs.Map.{keys_of}
 use Rattle.sv_term.specs.declared.node.Node.{Node}
 use Rattle.sv_term.specs.declared.node.SortId.{SortId}
 use Rattle.sv_term.specs.Terms.{sort_of}
-use Rattle.sv_term.specs.Banks.{Nodes, row_of, tree, StandsIn, Fits, Keeps, Stands, IsKind, IsSound, KindsAre}
+use Rattle.sv_term.specs.Banks.{row_of, tree, StandsIn, Fits, Keeps, Stands, IsKind, IsSound, KindsAre}
 use Rattle.sv_term.specs.contracts.node.NodePartialEq.TheImpl.{eq-value}
 use Rattle.sv_term.proofs.BankLists.{at_end}
 use Rattle.sv_term.proofs.BankGrowth.{keeps_added, stands_added, sound_added, kinds_added}
@@ -40,18 +40,13 @@ invariant_of-self-2 c = (
       (subst (λ b. IsKind b c.args.sort (sort_of (tree b c.args.node))) (sym c.self.view_is) c.requires.kind),
 )
 
-pub returns-clause-kept : goal.returns-clause-kept
-returns-clause-kept c =
-    subst (λ b. Keeps b (record { sorts = map row_of c.self.inside.sorts.keys; nodes = keys c.insert.new.self })) c.self.view_is
-    (keeps_added _ _ c.args.node refl (nodes c))
-
-pub returns-clause-node : goal.returns-clause-node
-returns-clause-node c = ap (λ z. slice_get z c.len-number.result) (nodes c) ∙ at_end (keys c.self.inside.nodes) c.args.node c.len-number.result (last c)
-
-pub returns-clause-stands : goal.returns-clause-stands
-returns-clause-stands c =
-    subst (λ b. Stands (record { sorts = map row_of c.self.inside.sorts.keys; nodes = keys c.insert.new.self }) record { 0 = c.len-number.result } (tree b c.args.node)) c.self.view_is
-    (stands_added _ _ c.args.node refl (nodes c) record { 0 = c.len-number.result } (last c))
-
-pub returns-clause-last : goal.returns-clause-last
-returns-clause-last c = subst (λ b. keys c.insert.new.self ≡ b.nodes ++ c.args.node ∷ []) c.self.view_is (nodes c)
+pub returns : goal.returns
+returns c = record {
+  kept = subst (λ b. Keeps b (record { sorts = map row_of c.self.inside.sorts.keys; nodes = keys c.insert.new.self })) c.self.view_is
+      (keeps_added _ _ c.args.node refl (nodes c));
+  node = ap (λ z. slice_get z c.len-number.result) (nodes c) ∙ at_end (keys c.self.inside.nodes) c.args.node c.len-number.result (last c);
+  stands = subst (λ b. Stands (record { sorts = map row_of c.self.inside.sorts.keys; nodes = keys c.insert.new.self }) record { 0 = c.len-number.result } (tree b c.args.node)) c.self.view_is
+      (stands_added _ _ c.args.node refl (nodes c) record { 0 = c.len-number.result } (last c));
+  last = subst (λ b. keys c.insert.new.self ≡ b.nodes ++ c.args.node ∷ []) c.self.view_is (nodes c);
+  err = search rules;
+}

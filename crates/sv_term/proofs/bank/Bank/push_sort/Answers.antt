@@ -1,6 +1,6 @@
-use Rattle.std.proofs.Common.{subst, sym, ap, ◌∙◌, ◌≡◌, ◌++◌, ◌∷◌, [], map, slice_get, Some, length, refl}
+use Rattle.std.proofs.Common.{rules, subst, sym, ap, ◌∙◌, ◌≡◌, ◌++◌, ◌∷◌, [], map, slice_get, length, refl}
 use Rattle.indexmap.specs.IndexMap.{keys}
-use Rattle.sv_term.specs.Banks.{Nodes, row_of, sort_tree, StandsIn, SortFits, Keeps, IsKind, IsSound, KindsAre}
+use Rattle.sv_term.specs.Banks.{row_of, sort_tree, StandsIn, SortFits, Keeps, IsKind, IsSound, KindsAre}
 use Rattle.sv_term.specs.contracts.node.SortNodePartialEq.TheImpl.{eq-value}
 use Rattle.sv_term.proofs.BankLists.{at_end}
 use Rattle.sv_term.proofs.BankGrowth.{keeps_sorted, kind_sorted, sound_sorted, kinds_sorted}
@@ -33,18 +33,14 @@ invariant_of-self-2 c = (
   kinds_sorted _ _ (row_of c.args.node) refl (rows c) (fits c) c.self.invariant.0 c.self.inside.nodes.entries (sym (length_map (λ e. e.0) c.self.inside.nodes.entries)) c.self.invariant.1,
 )
 
-pub returns-clause-kept : goal.returns-clause-kept
-returns-clause-kept c =
-    subst (λ b. Keeps b (record { sorts = map row_of c.insert_full.new.self.keys; nodes = keys c.self.inside.nodes })) c.self.view_is
-    (keeps_sorted _ _ (row_of c.args.node) refl (rows c) (fits c) c.self.invariant.0)
-
-pub returns-clause-row : goal.returns-clause-row
-returns-clause-row c = ap (λ z. slice_get z c.len-number.result) (rows c) ∙ at_end (map row_of c.self.inside.sorts.keys) (row_of c.args.node) c.len-number.result (last c)
-
-pub returns-clause-kind : goal.returns-clause-kind
-returns-clause-kind c =
-    subst (λ b. IsKind (record { sorts = map row_of c.insert_full.new.self.keys; nodes = keys c.self.inside.nodes }) record { 0 = c.len-number.result } (sort_tree b (row_of c.args.node))) c.self.view_is
-    (kind_sorted _ _ (row_of c.args.node) refl (rows c) (fits c) c.self.invariant.0 record { 0 = c.len-number.result } (last c))
-
-pub returns-clause-last : goal.returns-clause-last
-returns-clause-last c = subst (λ b. map row_of c.insert_full.new.self.keys ≡ b.sorts ++ row_of c.args.node ∷ []) c.self.view_is (rows c)
+pub returns : goal.returns
+returns c = record {
+  kept = subst (λ b. Keeps b (record { sorts = map row_of c.insert_full.new.self.keys; nodes = keys c.self.inside.nodes })) c.self.view_is
+      (keeps_sorted _ _ (row_of c.args.node) refl (rows c) (fits c) c.self.invariant.0);
+  nodes = search rules;
+  row = ap (λ z. slice_get z c.len-number.result) (rows c) ∙ at_end (map row_of c.self.inside.sorts.keys) (row_of c.args.node) c.len-number.result (last c);
+  kind = subst (λ b. IsKind (record { sorts = map row_of c.insert_full.new.self.keys; nodes = keys c.self.inside.nodes }) record { 0 = c.len-number.result } (sort_tree b (row_of c.args.node))) c.self.view_is
+      (kind_sorted _ _ (row_of c.args.node) refl (rows c) (fits c) c.self.invariant.0 record { 0 = c.len-number.result } (last c));
+  last = subst (λ b. map row_of c.insert_full.new.self.keys ≡ b.sorts ++ row_of c.args.node ∷ []) c.self.view_is (rows c);
+  err = search rules;
+}
