@@ -11,6 +11,7 @@ mod due;
 mod ended;
 mod laws;
 mod moving;
+mod reading;
 mod refusal;
 mod report;
 mod top;

@@ -1,39 +1,19 @@
-ghost use Rattle.std.specs.Prelude.{◌≡◌, ◌≢◌, ◌+◌, ◌≤◌, ◌⊎◌, ◌↔◌, List, ℕ, Some, IfOk, IsErrOf};
+ghost use Rattle.std.specs.Prelude.{◌≡◌, ◌+◌, ◌≤◌, ◌⊎◌, ◌↔◌, List, ℕ, Some};
 ghost use Rattle.sv_io.specs.Moves.{Rose};
-ghost use Rattle.sv_cli.specs.Answered.{Answered, IsCut, IsDueFrom, IsDueWithin, IsListed, IsWhole, Sank, texts};
+ghost use Rattle.sv_cli.specs.Answered.{Answered, IsCut, IsDueWithin, IsListed, IsWhole, Sank, texts};
 ghost use Rattle.sv_cli.specs.Headline.{HoldsTruly};
 ghost use Rattle.sv_cli.specs.Moved.{GivesRooms};
 ghost use Rattle.sv_lex.specs.Lexing.{limit};
 
-use crate::due::due;
 use crate::ended::Ended;
-use crate::moving::{ReadError, put_all, read_up_to};
+use crate::moving::{ReadError, put_all};
+use crate::reading::due_from;
 use std::alloc::Global;
 use sv_io::{Sink, Source};
 use sv_term::RuleBook;
 
 /// The most bytes of a text.
 const LIMIT: usize = 1_048_576;
-
-/// What is due by what a source gives, and how the program ends where it is written.
-fn due_from<S: Source>(
-    alloc: Global,
-    source: &mut S,
-    most: usize,
-) -> Result<(Vec<u8>, Ended), ReadError>
-    requires { most ≡ limit + 1 }
-    ensures due { IfOk result (λ due. IsDueFrom (S.left source.old) (S.left source.new) due.0.items due.1) }
-    ensures cause { IsErrOf result ReadError.Fault → Rose (S.faults source.old) (S.faults source.new) }
-    ensures counted { S.takes source.new ≤ S.takes source.old + most + 1 }
-    ensures rooms { GivesRooms most (S.calls source.old) (S.calls source.new) }
-    ensures sure { S.is_sure source.old → result ≢ Err ReadError.Fault }
-{
-    let text = read_up_to(alloc, source, most)?;
-    match due(alloc, &text) {
-        Ok(due) => Ok(due),
-        Err(_) => Err(ReadError::NoMemory),
-    }
-}
 
 /// The program: the words of the command line, a source to read, a sink to write to, and the book of rules.
 pub fn solsv<S: Source, K: Sink>(

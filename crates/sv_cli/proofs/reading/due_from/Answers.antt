@@ -1,7 +1,7 @@
 use Rattle.std.proofs.Common.{ℕ, List, subst}
 use Rattle.sv_cli.specs.Due.{IsDue}
 use Rattle.sv_cli.proofs.TextLimit.{due_from_read}
-use Rattle.sv_cli.proofs.top.due_from.Goals as goal
+use Rattle.sv_cli.proofs.reading.due_from.Goals as goal
 
 pub returns-in-Ok-clause-due : goal.returns-in-Ok-clause-due
 returns-in-Ok-clause-due g c =
