@@ -20,7 +20,7 @@ mutual
 
   -- what one call of another account meets: whether it succeeds, its results as trees, and what happens during it
   pub data Reply : Type 0 where
-    Replies_with : (ok : Bool) (results : List Tree) (during : Events) → Reply
+    AReply : (ok : Bool) (results : List Tree) (during : Events) → Reply
 
   -- one reply for each call that is made, in order
   pub data Replies : Type 0 where

@@ -1,4 +1,4 @@
--- Believed: when an annotation is true. Hold it against docs/language.md, "Annotations": integers are exact, indexes and quotients are total, parameters are those of the entry, and `old` reads the entry.
+-- Believed: when an annotation is true. Hold it against docs/meaning.md, "Annotations": integers are exact, indexes and quotients are total, parameters are those of the entry, and `old` reads the entry.
 use Rattle.std.specs.Prelude.{◌≡◌, ℕ, zero, suc, Bool, true, false, not, nat_lt, List, [], ◌∷◌, Option, Some, None, ℤ, pos}
 use Rattle.sv_type.specs.StorageTrees.{At, sum}
 use Rattle.sv_type.specs.Memory.{empty_memory}

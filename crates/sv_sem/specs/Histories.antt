@@ -11,7 +11,7 @@ use Rattle.sv_core.specs.PlainCore.{Contract, Function, Constructor, Given, Vari
 use Rattle.sv_sem.specs.States.{Held, State, View, root, more_balance, with_state, with_locals, from_some, with_some}
 use Rattle.sv_sem.specs.NamedParts.{assign, ToPath}
 use Rattle.sv_sem.specs.TrueValues.{value}
-use Rattle.sv_sem.specs.Adversary.{Visit, Visits, Event, Comes, Gift, Events, NoEvent, ThenEvent, Reply, Replies_with, Replies, NoReply, ThenReply, Mark, AtState, After, Meeting}
+use Rattle.sv_sem.specs.Adversary.{Visit, Visits, Event, Comes, Gift, Events, NoEvent, ThenEvent, Reply, AReply, Replies, NoReply, ThenReply, Mark, AtState, After, Meeting}
 use Rattle.sv_sem.specs.RunParts.{Outcome, Ends, Reverted, Done, Config, Ran, Runner, Rec, Setting, ran, reverted, viewed, next, with_option, func_at, bound, entered, end_marks}
 use Rattle.sv_sem.specs.Effects.{run_function, taken, all_fit, finished, same_view}
 use Rattle.sv_sem.specs.Runs.{run, with_values}
@@ -64,7 +64,7 @@ abbrev mutual
       record { state = others.state; marks = first.marks ++ others.marks }
 
   pub meeting : Contract → ℕ → Reply → Meeting
-  meeting core this (Replies_with ok results during) = record { ok = ok; results = results; during = events core this during }
+  meeting core this (AReply ok results during) = record { ok = ok; results = results; during = events core this during }
 
   pub meetings : Contract → ℕ → Replies → List Meeting
   meetings core this NoReply = []

@@ -54,13 +54,13 @@ is_limit : (kind : Kind) (b : Bool) → IsLimit kind b (limit kind b)
 is_limit kind true = either (has_greatest kind) (limit kind true ≡ limit kind true) (int_le (pos 0) (limit kind true) ≡ true) refl (greatest_above kind)
 is_limit kind false = either (has_least kind) (limit kind false ≡ limit kind false) (int_le (limit kind false) (pos 0) ≡ true) refl (least_below kind)
 
-are_limits : (core : Contract) → AreLimits core (true_limits core)
+pub are_limits : (core : Contract) → AreLimits core (true_limits core)
 are_limits core = λ t b. is_limit (kind_of core t) b
 
 nothing : (A : Type 0) (o : Tree) → None ≡ Some o → A
 nothing A o e = absurd (let bad : None ≡ Some o = e in cc)
 
-no_objects : (core : Contract) → WellMemory core empty_memory
+pub no_objects : (core : Contract) → WellMemory core empty_memory
 no_objects core = record { below = λ t r o e. nothing _ o e; fit = λ t r o e. nothing _ o e }
 
 abbrev start : Contract → ℕ → View
@@ -90,17 +90,17 @@ construction_breaks = (
 finishes_not : (R : Verdict → Type 0) (back : View → View) (o : Verdict) → ((v : Verdict) → R v → ⊥) → Finishes back R o → ⊥
 finishes_not R back o n f = elim f [ inl x ↦ n _ x.2 | inr y ↦ n _ y.1 ]
 
-abbrev Runs_of_body : Limits → List Prepared → View → Verdict → Type 0
-Runs_of_body l ps c v = RunsAll l (in_ctor never_born (own_ctor never_born)) NoRest (own_ctor never_born).body (ctor_view never_born (own_ctor never_born) ps c) v
+abbrev RunsOfBody : Limits → List Prepared → View → Verdict → Type 0
+RunsOfBody l ps c v = RunsAll l (in_ctor never_born (own_ctor never_born)) NoRest (own_ctor never_born).body (ctor_view never_born (own_ctor never_born) ps c) v
 
-no_run : (l : Limits) (ps : List Prepared) (c : View) (v : Verdict) → Runs_of_body l ps c v → ⊥
+no_run : (l : Limits) (ps : List Prepared) (c : View) (v : Verdict) → RunsOfBody l ps c v → ⊥
 no_run l ps c v r = elim r [ inl y ↦ y.1 | inr y ↦ y.1 ]
 
 no_bodies : (l : Limits) (ps : List Prepared) (c : View) (o : Verdict) → RunsBodies l never_born never_born.ctors ps c o → ⊥
 no_bodies l ps c o b =
     elim b [
-      | inl x ↦ finishes_not (Runs_of_body l ps c) same_view (EndsIn Done x.0) (no_run l ps c) x.1
-      | inr x ↦ finishes_not (Runs_of_body l ps c) same_view (Fails x.0) (no_run l ps c) x.1
+      | inl x ↦ finishes_not (RunsOfBody l ps c) same_view (EndsIn Done x.0) (no_run l ps c) x.1
+      | inr x ↦ finishes_not (RunsOfBody l ps c) same_view (Fails x.0) (no_run l ps c) x.1
     ]
 
 pub never_born_holds : NeverBornHolds

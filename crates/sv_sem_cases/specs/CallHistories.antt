@@ -5,7 +5,7 @@ use Rattle.sv_core.specs.declared.expr.OutKind.TheVariants as out
 use Rattle.sv_core.specs.PlainCode as code
 use Rattle.sv_core.specs.PlainCode.{Expr}
 use Rattle.sv_core.specs.PlainCore.{Contract, Modifier}
-use Rattle.sv_sem.specs.Adversary.{Gift, Reply, Replies_with}
+use Rattle.sv_sem.specs.Adversary.{Gift, Reply, AReply}
 use Rattle.sv_sem_cases.specs.Writing.{Seen, bool, uint, payable, balances, types_and, node, num, local, var, value, balance, test, body, external, contract, state_of, param, call_of, events, numbers, success, failure, history, seen_in, good, bad, end_of}
 use Rattle.sv_sem_cases.specs.BankHistories.{enough, sends, subtracts, give, covered, late, early, attack}
 
@@ -42,7 +42,7 @@ FailedReply =
 
 -- results that nobody asked for make a failed call
 abbrev pub MisfitReply : Type 0
-MisfitReply = with_reply (Replies_with true (numbers (1 ∷ [])) (events []) ∷ []) ≡ put_in ++ good (0 ∷ []) 0 ∷ good (5 ∷ []) 5 ∷ []
+MisfitReply = with_reply (AReply true (numbers (1 ∷ [])) (events []) ∷ []) ≡ put_in ++ good (0 ∷ []) 0 ∷ good (5 ∷ []) 5 ∷ []
 
 -- and so does a missing reply
 abbrev pub MissingReply : Type 0

@@ -8,7 +8,7 @@ use Rattle.sv_core.specs.declared.expr.OutKind.TheVariants as out
 use Rattle.sv_core.specs.PlainCode as code
 use Rattle.sv_core.specs.PlainCode.{Expr, Act}
 use Rattle.sv_core.specs.PlainCore.{Contract, Function}
-use Rattle.sv_sem.specs.Adversary.{Reply, Replies_with}
+use Rattle.sv_sem.specs.Adversary.{Reply, AReply}
 use Rattle.sv_sem.specs.Histories.{History}
 use Rattle.sv_sem_cases.specs.Writing.{AtAnEnd, bool, uint, address, balances, types_and, node, num, local, var, element, sender, sum_of, test, compute, body, external, contract, plain_ctor, state_of, param, in_memory, call_of, events, numbers, history, seen_in, good, bad, end_of}
 
@@ -199,7 +199,7 @@ asker =
     []
 
 abbrev pub answers : ℕ → Reply
-answers length = Replies_with true (Arr (pos length) (Entry (pos 1) (Num (pos 42)) Empty) (Num (pos 0)) ∷ []) (events [])
+answers length = AReply true (Arr (pos length) (Entry (pos 1) (Num (pos 42)) Empty) (Num (pos 0)) ∷ []) (events [])
 
 -- results of a reference type are new objects; the second call answers too short an array
 abbrev pub TypedResult : Type 0

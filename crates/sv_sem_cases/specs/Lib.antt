@@ -4,3 +4,4 @@ pub mod PointerHistories
 pub mod CallHistories
 pub mod ContractHistories
 pub mod Verdicts
+pub mod LongVerdicts

@@ -14,7 +14,7 @@ use Rattle.sv_core.specs.PlainCode.{Expr, Kind, Act, Stmts}
 use Rattle.sv_core.specs.PlainCore.{Contract, Function, Variable, Constructor}
 use Rattle.sv_sem.specs.States.{Held, Value, State}
 use Rattle.sv_sem.specs.AnnotationTruth.{true_limits, holds, at_view, at_state, at_end, Reading}
-use Rattle.sv_sem.specs.Adversary.{Visits, Event, Comes, Events, NoEvent, ThenEvent, Reply, Replies_with, Replies, NoReply, ThenReply, Mark, AtState, AtEnd, Broken}
+use Rattle.sv_sem.specs.Adversary.{Visits, Event, Comes, Events, NoEvent, ThenEvent, Reply, AReply, Replies, NoReply, ThenReply, Mark, AtState, AtEnd, Broken}
 use Rattle.sv_sem.specs.RunParts.{results_of}
 use Rattle.sv_sem.specs.Histories.{History, marks_of}
 
@@ -130,10 +130,10 @@ abbrev pub call_of : ℕ → ℕ → ℕ → ℕ → List ℕ → List Reply →
 call_of f from sent gas args rs = Comes (Visits f (numbers args) from sent 5 6 gas (replies rs))
 
 abbrev pub success : List Event → Reply
-success during = Replies_with true [] (events during)
+success during = AReply true [] (events during)
 
 abbrev pub failure : List Event → Reply
-failure during = Replies_with false [] (events during)
+failure during = AReply false [] (events during)
 
 -- construction by account 1 without value, from a balance
 abbrev pub history : ℕ → List Event → History

@@ -3,6 +3,7 @@ ghost use Rattle.sv_sem_cases.specs.PointerHistories.{OneElement, TwoElements, N
 ghost use Rattle.sv_sem_cases.specs.CallHistories.{GasEnds, FailedReply, MisfitReply, MissingReply, GiftInside, NotPayable, NoVisit, FailedSend, SendThatSucceeds, SendOfTooMuch, LockHolds, ForcedEther, EtherBefore};
 ghost use Rattle.sv_sem_cases.specs.ContractHistories.{Diamond, Precondition, TwoTurns, TooLittleGas, NoTurn, LoopThatBreaks, BreakWithoutGas, NeverBorn, Born, ModifierTwice, TokensFromNothing, NarrowSum, TypedResult};
 ghost use Rattle.sv_sem_cases.specs.Verdicts.{GiftBreaks, ConstructionBreaks, NeverBornHolds, NoGiftToTheUnborn, PreconditionIsNoLicence, WideLimitFails, PreconditionFails, BankFailsAtCall, LoopWithoutInvariant, NoInvariantNoFailure};
+ghost use Rattle.sv_sem_cases.specs.LongVerdicts.{PointersMayBeOne, LockIsForgotten};
 
 /// A bank that sends before it subtracts is attacked; one that subtracts first resists.
 pub fn bank()
@@ -67,4 +68,10 @@ pub fn verdicts()
     ensures bank_fails_at_call { BankFailsAtCall }
     ensures loop_without_invariant { LoopWithoutInvariant }
     ensures no_invariant_no_failure { NoInvariantNoFailure }
+{}
+
+/// Checks that fail at the end of longer runs.
+pub fn long_verdicts()
+    ensures pointers_may_be_one { PointersMayBeOne }
+    ensures lock_is_forgotten { LockIsForgotten }
 {}
