@@ -1,0 +1,9 @@
+pub mod Filled
+pub mod Steps
+pub mod Reading
+pub mod Exits
+pub mod Moving
+pub mod Nesting
+pub mod Tables
+pub mod Lists
+pub mod Chosen
