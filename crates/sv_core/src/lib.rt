@@ -2,7 +2,7 @@
 //!
 //! Promises: copies of expressions that equal what they copy.
 //! Stands on: `sv_text`, `sv_type`, `sqlite_items`.
-//! Read first: `specs/PlainCode.antt`, `specs/PlainCore.antt`.
+//! Read first: `specs/PlainCode.antt`, `specs/PlainCore.antt`, `specs/Formed.antt`, `specs/Checks.antt`.
 #![tactic(auto)]
 
 mod contract;
@@ -11,6 +11,7 @@ mod expr;
 mod label;
 mod rule;
 mod stat;
+mod tally;
 mod target;
 
 pub use contract::{
@@ -21,4 +22,5 @@ pub use expr::{CExpr, CKind, EnvName, Loc, Op, OutKind};
 pub use label::{FuncId, Label, Site};
 pub use rule::{Refusal, Rule, RuleFault};
 pub use stat::{Arm, Stat, StatKind};
+pub use tally::{Callee, Tally};
 pub use target::Target;
