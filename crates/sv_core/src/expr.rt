@@ -121,13 +121,7 @@ pub enum CKind {
     /// A call from inside: the function's place among the contract's functions, and the arguments.
     Call(u32, Items<CExpr>),
     /// A call of another account: how, whom, the value that is sent, the arguments, and for `Typed` the types of the results.
-    Outside(
-        OutKind,
-        Boxed<CExpr>,
-        Option<Boxed<CExpr>>,
-        Items<CExpr>,
-        Items<TypeNo>,
-    ),
+    Outside(OutKind, Boxed<CExpr>, Option<Boxed<CExpr>>, Items<CExpr>, Items<TypeNo>),
     /// `a.push()` or `a.push(x)`.
     Push(Boxed<CExpr>, Option<Boxed<CExpr>>),
     /// `a.pop()`.

@@ -25,10 +25,7 @@ fn copy_boxed(alloc: Global, e: &Boxed<CExpr>) -> Result<Boxed<CExpr>, NoMemory>
 }
 
 #[cycle(copy_expr)]
-fn copy_value(
-    alloc: Global,
-    e: &Option<Boxed<CExpr>>,
-) -> Result<Option<Boxed<CExpr>>, NoMemory>
+fn copy_value(alloc: Global, e: &Option<Boxed<CExpr>>) -> Result<Option<Boxed<CExpr>>, NoMemory>
     ensures { IfOk result (λ r. r ≡ e.now) }
 {
     match e {

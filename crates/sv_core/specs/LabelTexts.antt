@@ -1,0 +1,82 @@
+-- Believed: the texts of labels and of functions, and the order of labels. Hold it against the table of checks in `docs/report.md`.
+use Rattle.std.specs.Prelude.{◌≡◌, ◌<◌, ◌==◌, ◌++◌, if◌then◌else◌, ℕ, Bool, List, [], Option, Some, None, codes, length, slice_get}
+use Rattle.std.specs.Fmt.{decimal}
+use Rattle.std.specs.Ordering.{nat_cmp, ordering_then}
+use Rattle.std.specs.declared.cmp.Ordering.{Ordering}
+use Rattle.std.specs.declared.cmp.Ordering.TheVariants.{Less, Equal, Greater}
+use Rattle.sv_text.specs.declared.place.Place.{Place}
+use Rattle.sv_core.specs.declared.label.FuncId.{FuncId}
+use Rattle.sv_core.specs.declared.label.FuncId.TheVariants.{Constructor, Function, Gift}
+use Rattle.sv_core.specs.declared.label.Label.{Label}
+use Rattle.sv_core.specs.declared.label.Site.{Site}
+use Rattle.sv_core.specs.declared.label.Site.TheVariants.{At, End}
+use Rattle.sv_core.specs.PlainCore.{Contract}
+use Rattle.sv_core.specs.PlainCore as plain
+
+-- the text of a name
+abbrev pub text_of : List (List ℕ) → ℕ → List ℕ
+text_of names n = text (slice_get names n)
+  where
+    text : Option (List ℕ) → List ℕ
+    text (Some bytes) = bytes
+    text None = []
+
+-- what is checked: the table of checks, row by row, for the number of an annotation and the name of a function
+abbrev pub check_text : ℕ → ℕ → List ℕ → List ℕ
+check_text kind number name =
+    if kind == 1 then codes "precondition " ++ decimal number ++ codes " of " ++ name
+    else (if kind == 2 then codes "invariant " ++ decimal number ++ codes " before function " ++ name
+    else (if kind == 3 then codes "invariant " ++ decimal number ++ codes " before call"
+    else (if kind == 4 then codes "assert"
+    else (if kind == 5 then codes "loop invariant " ++ decimal number ++ codes " on entry"
+    else (if kind == 6 then codes "loop invariant " ++ decimal number ++ codes " after turn"
+    else (if kind == 7 then codes "invariant " ++ decimal number
+    else codes "postcondition " ++ decimal number))))))
+
+-- where it is checked
+abbrev pub site_text : Site → List ℕ
+site_text (At place) = codes " at " ++ decimal place.line ++ codes ":" ++ decimal place.col
+site_text End = codes " at end"
+
+abbrev pub text_of_label : List (List ℕ) → Label → List ℕ
+text_of_label names l = check_text l.kind l.number (text_of names l.of) ++ site_text l.site
+
+-- the name of a function of which another of its name is more derived begins with its contract
+abbrev pub defined_by : List (List ℕ) → Contract → plain.Function → List ℕ
+defined_by names c f = if f.top then [] else text_of names (owner (slice_get c.owners f.owner)) ++ codes "."
+  where
+    owner : Option ℕ → ℕ
+    owner (Some name) = name
+    owner None = 0
+
+abbrev pub text_of_function : List (List ℕ) → Contract → Option plain.Function → List ℕ
+text_of_function names c (Some f) = defined_by names c f ++ text_of names f.name
+text_of_function names c None = []
+
+-- the name on a function's line
+abbrev pub text_of_func : List (List ℕ) → Contract → FuncId → List ℕ
+text_of_func names c Constructor = text_of names c.name ++ codes ".constructor"
+text_of_func names c (Function k) = text_of names c.name ++ codes "." ++ text_of_function names c (slice_get c.funcs k)
+text_of_func names c Gift = text_of names c.name ++ codes ".(gift)"
+
+-- the names that a function's line is written with are in the list, and the function is there
+abbrev pub HasNames : List (List ℕ) → Contract → FuncId → Type 0
+HasNames names c (Function k) =
+    (c.name < length names)
+    × ((f : plain.Function) × (slice_get c.funcs k ≡ Some f) × (f.name < length names)
+    × ((name : ℕ) × (slice_get c.owners f.owner ≡ Some name) × (name < length names)))
+HasNames names c _ = c.name < length names
+
+-- labels stand in the order of their places, those at the end last
+abbrev pub place_order : Place → Place → Ordering
+place_order p q = ordering_then (nat_cmp p.line q.line) (nat_cmp p.col q.col)
+
+abbrev pub site_order : Site → Site → Ordering
+site_order (At p) (At q) = place_order p q
+site_order (At p) End = Less
+site_order End (At q) = Greater
+site_order End End = Equal
+
+-- then of their kinds, then of their numbers
+abbrev pub label_order : Label → Label → Ordering
+label_order a b = ordering_then (site_order a.site b.site) (ordering_then (nat_cmp a.kind b.kind) (nat_cmp a.number b.number))
