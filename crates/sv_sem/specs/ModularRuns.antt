@@ -15,7 +15,7 @@ use Rattle.sv_core.specs.PlainCore.{Contract, Function, Modifier, Use, Variable}
 use Rattle.sv_sem.specs.States.{Held, Value, State, View, Choose, or_else, type_of, with_state, less_balance}
 use Rattle.sv_sem.specs.Operators.{is_zero, binary}
 use Rattle.sv_sem.specs.NamedParts.{Worked, Target, assign, delete, made, new_array}
-use Rattle.sv_sem.specs.TrueValues.{effect_of}
+use Rattle.sv_sem.specs.TrueValues.{effect_of, given}
 use Rattle.sv_sem.specs.AnnotationTruth.{Limits, Reading, AllHold, FirstFalse, at_view, at_state, at_end}
 use Rattle.sv_sem.specs.RunParts.{End, Done, Broke, Continued, Returned, Setting, func_at, modifier_at, in_function, in_modifier, bound, entered, back_in, into_modifier, at_rest, after_rest, into_results, into_slots}
 use Rattle.sv_sem.specs.Effects.{all_fit, taken, element_type, push_to, push_value_to, pop_from, same_view}
@@ -142,7 +142,8 @@ WithTruth l core e c go o = AfterEffect l core (effect_of e) c (λ rs d. (x : �
 
 abbrev pub WithValues : Limits → Contract → List Expr → View → (List Held → View → Type 0) → Verdict → Type 0
 WithValues l core [] c go o = go [] c
-WithValues l core (e ∷ es) c go o = WithValue l core e c (λ x d. WithValues l core es d (λ xs m. go (x ∷ xs) m) o) o
+WithValues l core (e ∷ es) c go o =
+    AfterEffect l core (effect_of e) c (λ rs d. (x : Held) × FreeValue l core d rs e x × WithValues l core es d (λ xs m. go (given rs x ++ xs) m) o) o
 
 -- ---- loops
 

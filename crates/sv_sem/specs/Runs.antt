@@ -1,12 +1,12 @@
 -- Believed: runs of statements, with a unit of gas for each statement and each turn of a loop. Hold it against Solidity's documentation, "Control Structures", "Error handling" and "Assignment".
-use Rattle.std.specs.Prelude.{ℕ, zero, suc, Bool, not, if◌then◌else◌, List, [], ◌∷◌}
+use Rattle.std.specs.Prelude.{◌++◌, ℕ, zero, suc, Bool, not, if◌then◌else◌, List, [], ◌∷◌}
 use Rattle.sv_type.specs.Shapes.{is_in_type}
 use Rattle.sv_core.specs.PlainCode as code
 use Rattle.sv_core.specs.PlainCode.{Expr, Act, Stmts, Arms}
 use Rattle.sv_sem.specs.States.{Held, Value, type_of, kind_of, or_else}
 use Rattle.sv_sem.specs.Operators.{is_zero, tested, binary}
 use Rattle.sv_sem.specs.NamedParts.{assign, delete}
-use Rattle.sv_sem.specs.TrueValues.{effect_of, value, a_number, target}
+use Rattle.sv_sem.specs.TrueValues.{effect_of, value, a_number, target, given}
 use Rattle.sv_sem.specs.Adversary.{Broken}
 use Rattle.sv_sem.specs.RunParts.{Done, Broke, Continued, Returned, Outcome, Ends, Reverted, Config, Ran, Runner, Rec, Setting, ran, reverted, viewed, ended, marked, next, with_option, paid, at_rest, after_rest, into_results, into_slots}
 use Rattle.sv_sem.specs.Effects.{after_effect}
@@ -22,10 +22,12 @@ abbrev pub with_truth : Setting → Rec → Expr → Config → (Bool → Runner
 with_truth set rec e g go =
     after_effect set.core rec (effect_of e) g (λ rs h. with_option (a_number (value set.core h.view rs e)) h (λ x. go (not (is_zero x)) h))
 
--- with the values of several, each after the effects of those before it
+-- with what several give, each after the effects of those before it
 abbrev pub with_values : Setting → Rec → List Expr → Config → (List Held → Runner) → Ran
 with_values set rec [] g go = go [] g
-with_values set rec (e ∷ es) g go = with_value set rec e g (λ x h. with_values set rec es h (λ xs. go (x ∷ xs)))
+with_values set rec (e ∷ es) g go =
+    after_effect set.core rec (effect_of e) g (λ rs h.
+    with_option (value set.core h.view rs e) h (λ x. with_values set rec es h (λ xs. go (given rs x ++ xs))))
 
 -- ---- loops
 

@@ -91,6 +91,11 @@ abbrev pub values : Contract → View → List Held → Exprs → Option (List H
 values core c rs code.Nil = Some []
 values core c rs (code.Cons e es) = with_some (value core c rs e) (λ h. with_some (values core c rs es) (λ hs. Some (h ∷ hs)))
 
+-- what a full expression gives: its value, or all results of a call that has several
+abbrev pub given : List Held → Held → List Held
+given (first ∷ second ∷ more) x = first ∷ second ∷ more
+given rs x = x ∷ []
+
 -- ---- targets
 
 -- what an effect gave is assigned to

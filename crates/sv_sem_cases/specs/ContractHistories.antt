@@ -209,3 +209,23 @@ TypedResult =
     ∷ good (0 ∷ []) 0 ∷ end_of 1 ∷ good (42 ∷ []) 0 ∷ good (42 ∷ []) 0
     ∷ good (42 ∷ []) 0 ∷ good (42 ∷ []) 0
     ∷ []
+
+-- ---- function g() public returns (uint256, uint256) { return f(); } function f() internal returns (uint256, uint256) { return (3, 4); }
+
+abbrev pub pairs : Contract
+pairs =
+    contract (types_and []) []
+    (record (external 1 false (param uint ∷ param uint ∷ []) 0 (code.Return (node bool (code.Call 1 code.Nil) ∷ []) ∷ [])) { results = 2 }
+    ∷ record (external 2 false (param uint ∷ param uint ∷ []) 0 (code.Return (num 3 ∷ num 4 ∷ []) ∷ [])) { public = false; results = 2 }
+    ∷ [])
+    []
+
+-- all results of the call are returned; the end of an internal function carries no state
+abbrev pub SeveralResults : Type 0
+SeveralResults =
+    seen_in pairs (history 0 (call_of 0 7 0 9 [] [] ∷ [])) ≡
+    good [] 0
+    ∷ AtAnEnd 2 true true (pos 3 ∷ pos 4 ∷ [])
+    ∷ AtAnEnd 1 true true (pos 3 ∷ pos 4 ∷ []) ∷ good [] 0
+    ∷ good [] 0
+    ∷ []

@@ -1,7 +1,7 @@
 ghost use Rattle.sv_sem_cases.specs.BankHistories.{Attacked, Resists};
 ghost use Rattle.sv_sem_cases.specs.PointerHistories.{OneElement, TwoElements, NoElement, PoppedPointer, PopOfNothing, OneObject, DeletedField};
 ghost use Rattle.sv_sem_cases.specs.CallHistories.{GasEnds, FailedReply, MisfitReply, MissingReply, GiftInside, NotPayable, NoVisit, FailedSend, SendThatSucceeds, SendOfTooMuch, LockHolds, ForcedEther, EtherBefore};
-ghost use Rattle.sv_sem_cases.specs.ContractHistories.{Diamond, Precondition, TwoTurns, TooLittleGas, NoTurn, LoopThatBreaks, BreakWithoutGas, NeverBorn, Born, ModifierTwice, TokensFromNothing, NarrowSum, TypedResult};
+ghost use Rattle.sv_sem_cases.specs.ContractHistories.{Diamond, Precondition, TwoTurns, TooLittleGas, NoTurn, LoopThatBreaks, BreakWithoutGas, NeverBorn, Born, ModifierTwice, TokensFromNothing, NarrowSum, TypedResult, SeveralResults};
 ghost use Rattle.sv_sem_cases.specs.Verdicts.{GiftBreaks, ConstructionBreaks, NeverBornHolds, NoGiftToTheUnborn, PreconditionIsNoLicence, WideLimitFails, PreconditionFails, BankFailsAtCall, LoopWithoutInvariant, NoInvariantNoFailure};
 ghost use Rattle.sv_sem_cases.specs.LongVerdicts.{PointersMayBeOne, LockIsForgotten};
 
@@ -54,6 +54,7 @@ pub fn contracts()
     ensures tokens_from_nothing { TokensFromNothing }
     ensures narrow_sum { NarrowSum }
     ensures typed_result { TypedResult }
+    ensures several_results { SeveralResults }
 {}
 
 /// Checks that may fail, and checks that can't.
