@@ -1,4 +1,4 @@
--- The class of a word, and that of a punctuation.
+-- Believed: the class of a word, and that of a punctuation; which words are elementary types, and which are reserved. Hold it against Solidity's lists of types, keywords and reserved keywords.
 use Rattle.std.specs.Prelude.{ℕ, Bool, List, [], ◌∷◌, ◌++◌, if◌then◌else◌, codes, map, nat_eq}
 use Rattle.std.specs.List.{list_any}
 use Rattle.std.specs.Cmp.Lexicographic.{pointwise}

@@ -1,4 +1,4 @@
--- The trees of contracts and of what is declared in them.
+-- Believed: the trees of contracts and of what is declared in them. Hold it against the types of `src/contract.rt`, and docs/grammar.md.
 use Rattle.std.specs.Prelude.{List, [], ◌∷◌, map, Option, Some, None}
 use Rattle.sv_grammar.specs.Grammar.{Tree, unit, name, none, some, node}
 use Rattle.sv_grammar.specs.Reading.{list_tree}

@@ -1,4 +1,4 @@
--- The trees of structs, enums, events and errors.
+-- Believed: the trees of structs, enums, events and errors. Hold it against the types of `src/unit.rt`, and docs/grammar.md.
 use Rattle.std.specs.Prelude.{map}
 use Rattle.sv_grammar.specs.Grammar.{Tree, unit, name, node}
 use Rattle.sv_ast.specs.Trees.{extent, ◌⊗◌, optional, optional_word, several, commas, optional_commas}

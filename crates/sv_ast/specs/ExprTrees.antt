@@ -1,4 +1,4 @@
--- The trees of expressions and types.
+-- Believed: the trees of expressions and types. Hold it against the types of `src/expr.rt`, `src/post.rt` and `src/types.rt`, and docs/grammar.md.
 use Rattle.std.specs.Prelude.{ℕ, zero, suc, List, [], ◌∷◌, map}
 use Rattle.sv_grammar.specs.Grammar.{Extent, Tree, unit, name, pair, left, right, none, some, nil, cons, node}
 use Rattle.sv_grammar.specs.Reading.{list_tree}

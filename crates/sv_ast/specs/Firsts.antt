@@ -1,4 +1,4 @@
--- Serves the proof: how the sides begin. The check of the grammar proves these tables right.
+-- Serves the proof: how the sides begin; the check of the grammar proves these tables right.
 use Rattle.std.specs.Prelude.{ℕ, Bool, true, false, List, [], ◌∷◌}
 use Rattle.sv_ast.specs.Terminals as k
 use Rattle.sv_ast.specs.Syntax.{Side, ids, unit, file_const, contract, bases, base, part, variable, var_word, function, ctor, special, modifier, head, over, struct, field, enum, event, ev_par, error, er_par, params, param, location, type, plain, note_line, block, stmt, body, if, while, for, simple, return, decl, tuple, slot, action, assign_op, args, expr, or, and, same, less, sum, prod, term, unary, power, post, atom, unit10, else_part, suffix, after_name, after_longer, new_name, name_type, name_plain, new_longer, longer_type, longer_plain}

@@ -9,4 +9,4 @@ pub mod StmtTrees
 pub mod DeclarationTrees
 pub mod ContractTrees
 pub mod UnitTrees
-pub mod Laws
+pub mod GrammarLaws

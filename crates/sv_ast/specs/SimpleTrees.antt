@@ -1,4 +1,4 @@
--- The trees of annotations, and of statements that end with `;`.
+-- Believed: the trees of annotations, and of statements that end with `;`. Hold it against the types of `src/simple.rt`, and docs/grammar.md.
 use Rattle.std.specs.Prelude.{List, [], ◌∷◌, map}
 use Rattle.sv_grammar.specs.Grammar.{Tree, unit, name, node}
 use Rattle.sv_ast.specs.Trees.{extent, ◌⊗◌, nth, last, optional, commas}

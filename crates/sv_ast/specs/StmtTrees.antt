@@ -1,4 +1,4 @@
--- The trees of statements.
+-- Believed: the trees of statements. Hold it against the types of `src/stmt.rt`, and docs/grammar.md.
 use Rattle.std.specs.Prelude.{ℕ, List, [], ◌∷◌, map, Option, Some, None}
 use Rattle.sv_text.specs.declared.place.Place.{Place}
 use Rattle.sv_grammar.specs.Grammar.{Extent, Tree, unit, left, right, none, some, node}

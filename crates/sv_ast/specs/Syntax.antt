@@ -1,5 +1,4 @@
--- The grammar: what each left side derives. `a ⊙ b` is a and then b, `a ∣ b` is one of the two, `opt a` is a or nothing,
--- `star a` is any number of a, and `side s` is what the left side s derives.
+-- Believed: the grammar, what each left side derives: `a ⊙ b` is a and then b, `a ∣ b` is one of the two, `opt a` is a or nothing, `star a` is any number of a, and `side s` is what the left side s derives. Hold it against docs/grammar.md, line by line.
 use Rattle.std.specs.Prelude.{ℕ, zero, suc, List, [], ◌∷◌}
 use Rattle.sv_grammar.specs.Grammar.{Part, word, text, seq, alt, opt, star, both, side}
 use Rattle.sv_ast.specs.Terminals as k

@@ -1,4 +1,4 @@
--- The classes of tokens, and how words and punctuation are spelled.
+-- Believed: the classes of tokens, and how words and punctuation are spelled. Hold it against docs/grammar.md, the words and the punctuation in quotes.
 use Rattle.std.specs.Prelude.{ℕ, List, [], ◌∷◌, codes}
 
 -- Each class is a number. 0 is no class: it stands for the end of the tokens.

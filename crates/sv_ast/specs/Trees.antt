@@ -1,4 +1,4 @@
--- When a node of the syntax tree is the tree of a list of tokens, and how trees are made of parts.
+-- Believed: when a node of the syntax tree is the tree of a list of tokens, and how trees are made of parts. Hold it against the types of `src/`.
 use Rattle.std.specs.Prelude.{ℕ, zero, suc, Bool, List, [], ◌∷◌, map, Option, Some, None, if◌then◌else◌}
 use Rattle.sv_text.specs.declared.span.Span.{Span}
 use Rattle.sv_text.specs.declared.place.Place.{Place}

@@ -1,4 +1,4 @@
--- The trees of declarations and of a whole text.
+-- Believed: the trees of declarations and of a whole text. Hold it against the types of `src/unit.rt`, and docs/grammar.md.
 use Rattle.std.specs.Prelude.{map}
 use Rattle.sv_grammar.specs.Grammar.{Tree, unit, name, node}
 use Rattle.sv_grammar.specs.Reading.{list_tree}

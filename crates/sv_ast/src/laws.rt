@@ -1,6 +1,6 @@
 //! Laws of the grammar, as the contract of a function that does nothing.
 
-ghost use Rattle.sv_ast.specs.Laws.{TreeIsOne, NamedTreeIsOne};
+ghost use Rattle.sv_ast.specs.GrammarLaws.{TreeIsOne, NamedTreeIsOne};
 
 /// A list of tokens has one tree at most.
 pub fn tree_is_one()

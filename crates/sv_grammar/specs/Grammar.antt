@@ -1,4 +1,4 @@
--- Grammars as data: what a part derives, and by which tree.
+-- Believed: grammars as data, what a part derives and by which tree. Hold it against a textbook's context-free grammars and derivations.
 use Rattle.std.specs.Prelude.{◌≡◌, ℕ, Bool, true, false, ◌||◌, ◌==◌, List, [], ◌∷◌, ◌++◌}
 
 -- where tokens lie in their text: their bytes, and the line and the column of the first byte

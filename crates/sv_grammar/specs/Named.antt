@@ -1,4 +1,4 @@
--- Trees with texts by their numbers in a list of names.
+-- Believed: trees with texts by their numbers in a list of names. Hold it against the list of names: number i stands for its text at place i.
 use Rattle.std.specs.Prelude.{◌≡◌, ℕ, List, ◌++◌, Some, slice_get}
 use Rattle.sv_grammar.specs.Grammar.{Extent, Tree, unit, leaf, name, pair, left, right, none, some, nil, cons, node}
 

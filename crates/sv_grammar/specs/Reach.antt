@@ -1,4 +1,4 @@
--- How far the tokens from a place on are a viable prefix.
+-- Believed: how far the tokens from a place on are a viable prefix. Hold it against a textbook's viable prefixes, and docs/report.md on the place of `Syntax`.
 use Rattle.std.specs.Prelude.{ℕ, ◌-◌, ◌≤◌, List, take, drop, length}
 use Rattle.sv_grammar.specs.Grammar.{Token, Part, Begins}
 

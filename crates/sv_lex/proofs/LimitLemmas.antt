@@ -6,7 +6,7 @@ use Rattle.std.proofs.lemmas.List.{take_more, map_push, map-append, take-append-
 use Rattle.std.proofs.lemmas.List.Elements.{All-get_or, All-nil, All-cons, All-head, All-tail}
 use Rattle.sv_lex.specs.Lexing.{IsOf, shown, Scanned, GivesFirst}
 use Rattle.sv_lex.specs.Limits.{HasNo, IsDeep, IsLong, opened, opens_bracket, closes_bracket, restarts}
-use Rattle.sv_lex.specs.Nesting.{IsBracket, IsShallow, in_a_row}
+use Rattle.sv_lex.specs.NestingFound.{IsBracket, IsShallow, in_a_row}
 use Rattle.sv_lex.specs.declared.nesting.Bracket.TheVariants as bracket
 use Rattle.sv_lex.specs.declared.nesting.Bracket.TheVariants.{Opens, Closes}
 use Rattle.sv_lex.specs.Tokens.{Lexeme}

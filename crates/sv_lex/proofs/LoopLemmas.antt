@@ -7,7 +7,7 @@ use Rattle.sv_lex.specs.Faults.{IsStuck, LineFails, LinesFail, FirstFault, stuck
 use Rattle.sv_lex.specs.Forms.{IsWord, IsDecimal, IsHexadecimal, IsString, IsPragma, IsToken, marks}
 use Rattle.sv_lex.specs.Lexing.{limit}
 use Rattle.sv_lex.specs.Pieces.{Piece, space, line_comment, block_comment, token, written, all_written, Fits, Starts, AllFit, Splits}
-use Rattle.sv_lex.specs.Reading.{piece_of}
+use Rattle.sv_lex.specs.TextReading.{piece_of}
 use Rattle.sv_lex.specs.Tokens.{Lexeme, lexeme, Tokens, Gives, PieceGives, LineGives, plain, annotation, LinesGive, lines_of, tokens_among, note_tokens, documentation, is_starred, Opening, Opens, word_at, content_at}
 use Rattle.sv_lex.specs.declared.collector.Collector.{Collector}
 use Rattle.sv_lex.specs.declared.documentation.Opening.{Opening as Found}

@@ -12,7 +12,7 @@ use Rattle.sv_lex.specs.Bytes.{is_separator, begins_word, is_digit, is_quote}
 use Rattle.sv_lex.specs.Faults.{IsStuck, strange_byte}
 use Rattle.sv_lex.specs.Forms.{marks, openers, begins_mark, IsLongest}
 use Rattle.sv_lex.specs.Longest.{IsLongestSuch, longest_first}
-use Rattle.sv_lex.specs.Reading.{BeginsNothing}
+use Rattle.sv_lex.specs.TextReading.{BeginsNothing}
 use Rattle.sv_lex.specs.declared.fault.Flaw.TheVariants.{Char}
 use Rattle.sv_lex.proofs.LongestLemmas.{front_fits, front_taken}
 

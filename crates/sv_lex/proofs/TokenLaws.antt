@@ -5,7 +5,7 @@ use Rattle.std.proofs.lemmas.List.Elements.{All-nil, All-cons, All-append, All-w
 use Rattle.std.proofs.lemmas.List.{append_assoc, append-nil, length-append, take_at, drop_at}
 use Rattle.sv_lex.specs.Bytes.{is_newline, is_slash, is_star}
 use Rattle.sv_lex.specs.Faults.{LineFails, LinesFail, Fails, stuck, in_comment, FirstFault}
-use Rattle.sv_lex.specs.Laws.{ListIsOne, FaultExcludesList, FaultIsOne, Rise, TokensAreSlices}
+use Rattle.sv_lex.specs.TokenLaws.{ListIsOne, FaultExcludesList, FaultIsOne, Rise, TokensAreSlices}
 use Rattle.sv_lex.specs.Pieces.{Piece, space, line_comment, block_comment, token, written, all_written, Starts, Splits}
 use Rattle.sv_lex.specs.Tokens.{Lexeme, lexeme, put_before, lines_of, begins_with_slash, documentation, is_starred, Opening, Opens, word_at, content_at, tokens_among, note_tokens, LineGives, plain, annotation, LinesGive, PieceGives, Gives}
 use Rattle.sv_lex.specs.declared.fault.Flaw.{Flaw}

@@ -1,4 +1,4 @@
--- What the code reads of a documentation comment. It serves the proof.
+-- Serves the proof: what the code reads of a documentation comment.
 use Rattle.std.specs.Prelude.{◌≡◌, ℕ, Bool, List, [], ◌∷◌, ◌++◌, Option, Some, None, length}
 use Rattle.sv_lex.specs.Pieces.{Piece, IsOneLine, written}
 use Rattle.sv_lex.specs.Tokens.{Opening, Opens, IsLead, documentation, is_starred, lines_of, word_at}

@@ -1,4 +1,4 @@
--- Classes of bytes.
+-- Believed: classes of bytes. Hold it against docs/language.md on tokens.
 use Rattle.std.specs.Prelude.{◌≡◌, ◌==◌, ℕ, Bool, true, false, ◌&&◌, ◌||◌, List, [], ◌∷◌, nat_le}
 
 -- the letters of ASCII, and its digits

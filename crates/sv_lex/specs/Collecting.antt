@@ -1,8 +1,8 @@
--- What the code has found in a text so far. It serves the proof.
+-- Serves the proof: what the code has found in a text so far.
 use Rattle.std.specs.Prelude.{◌≡◌, ℕ, ◌+◌, ◌^◌, ◌<◌, ◌≤◌, Bool, List, [], ◌∷◌, ◌++◌, Option, Some, None, Result, Ok, Err, All, length, map}
 use Rattle.sv_lex.specs.Faults.{IsStuck, LineFails, LinesFail, FirstFault}
 use Rattle.sv_lex.specs.Lexing.{place_at, shown, IsOf, limit, most_tokens}
-use Rattle.sv_lex.specs.Pieces.{Piece, Splits, all_written, written}
+use Rattle.sv_lex.specs.Pieces.{Piece, Fits, Splits, all_written, written}
 use Rattle.sv_lex.specs.Tokens.{Lexeme, Tokens, Gives, LineGives, LinesGive, PieceGives, tokens_among, documentation, is_starred, lines_of}
 use Rattle.sv_lex.specs.declared.fault.Flaw.{Flaw}
 use Rattle.sv_lex.specs.declared.collector.Collector.{Collector}
@@ -43,6 +43,11 @@ pub record IsSlice (source : List ℕ) (at : ℕ) (bytes : List ℕ) : Type 0 wh
   pub after : List ℕ
   pub spelled : source ≡ before ++ (bytes ++ after)
   pub place : at ≡ length before
+
+-- the piece stands in the text at the offset, before some text that may stand behind it
+pub record StandsAt (source : List ℕ) (at : ℕ) (piece : Piece) : Type 0 where
+  pub slice : IsSlice source at (written piece)
+  pub formed : (rest : List ℕ) × Fits piece rest
 
 -- what is added for the content of an annotation line, for a documentation line, for documentation, for a piece and for a text
 -- that begin at the offset, or where the first fault is

@@ -1,4 +1,4 @@
--- The first fault of a text that has no token list.
+-- Believed: the first fault of a text that has no token list. Hold it against docs/language.md on `Char` and `Unclosed`.
 use Rattle.std.specs.Prelude.{◌≡◌, ◌≢◌, ℕ, ◌+◌, ◌≤◌, ◌⊎◌, Bool, true, false, not, List, [], ◌∷◌, ◌++◌, codes, length}
 use Rattle.std.specs.List.{AllPass}
 use Rattle.sv_lex.specs.Bytes.{continues_word, is_newline, is_semicolon, DoesNotBegin, DoesBegin}

@@ -1,4 +1,4 @@
--- The forms of tokens.
+-- Believed: the forms of tokens. Hold it against docs/language.md on tokens, and Solidity's grammar of the lexer.
 use Rattle.std.specs.Prelude.{◌≡◌, ◌≢◌, ◌==◌, ℕ, ◌≤◌, ◌⊎◌, Bool, true, false, not, ◌&&◌, ◌||◌, if◌then◌else◌, List, [], ◌∷◌, ◌++◌, Contains, codes, length, nat_eq, nat_le}
 use Rattle.std.specs.List.{AllPass, list_any, starts_with}
 use Rattle.sv_lex.specs.Bytes.{is_digit, is_hex_digit, begins_word, continues_word, is_separator, is_semicolon, is_quote, DoesNotBegin, DoesBegin}

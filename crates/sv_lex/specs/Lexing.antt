@@ -1,4 +1,4 @@
--- What `lex` answers, and what a contract sees of a token and of a list of tokens.
+-- Believed: what `lex` answers, and what a contract sees of a token and of a list of tokens. Hold it against docs/language.md on what refuses a text.
 use Rattle.std.specs.Prelude.{◌≡◌, ℕ, ◌<◌, ◌≤◌, Option, Some, None, List, ◌∷◌, ◌++◌, Result, Ok, Err, length, slice_range}
 use Rattle.sv_lex.specs.Faults.{FirstFault}
 use Rattle.sv_lex.specs.Limits.{IsFirst, HasNo}

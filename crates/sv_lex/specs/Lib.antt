@@ -5,12 +5,12 @@ pub mod Tokens
 pub mod Faults
 pub mod Limits
 pub mod Lexing
-pub mod Classes
+pub mod ByteTests
 pub mod Longest
 pub mod Strings
-pub mod Reading
+pub mod TextReading
 pub mod Annotations
 pub mod Collecting
 pub mod Listing
-pub mod Nesting
-pub mod Laws
+pub mod NestingFound
+pub mod TokenLaws

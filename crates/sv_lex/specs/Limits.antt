@@ -1,4 +1,4 @@
--- The first token that is left out, and the first that is nested too deeply or too far behind its statement's beginning.
+-- Believed: the first token that is left out, and the first that is nested too deeply or too far behind its statement's beginning. Hold it against docs/language.md on `Out` and `Deep`, and its lists of left-out words and operators.
 use Rattle.std.specs.Prelude.{◌≡◌, ℕ, ◌+◌, ◌-◌, ◌<◌, ◌≤◌, ◌⊎◌, Bool, true, false, ◌||◌, if◌then◌else◌, List, [], ◌∷◌, ◌++◌, All, codes, length, nat_eq}
 use Rattle.std.specs.List.{list_any}
 use Rattle.std.specs.Cmp.Lexicographic.{pointwise}

@@ -1,4 +1,4 @@
--- What the tokens of a list are to its text. It serves the proof.
+-- Serves the proof: what the tokens of a list are to its text.
 use Rattle.std.specs.Prelude.{ℕ, ◌≤◌, List, All, length, map}
 use Rattle.sv_lex.specs.Lexing.{IsOf, shown, limit, most_tokens}
 use Rattle.sv_lex.specs.Tokens.{Tokens}

@@ -1,4 +1,4 @@
--- The longest front of a text that has a form. It serves the proof.
+-- Serves the proof: the longest front of a text that has a form.
 use Rattle.std.specs.Prelude.{◌≡◌, ℕ, ◌≤◌, ◌<◌, Bool, true, ◌&&◌, List, [], ◌∷◌, ◌++◌, length, take, nat_le}
 use Rattle.std.specs.List.{list_all}
 

@@ -1,4 +1,4 @@
--- The pieces in which a text is written: separators, comments and tokens.
+-- Believed: the pieces in which a text is written, separators, comments and tokens. Hold it against docs/language.md on tokens.
 use Rattle.std.specs.Prelude.{◌≡◌, ℕ, true, not, List, [], ◌∷◌, ◌++◌, codes}
 use Rattle.std.specs.List.{AllPass, flat_map}
 use Rattle.sv_lex.specs.Bytes.{is_separator, is_newline}

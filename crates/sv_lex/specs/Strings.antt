@@ -1,4 +1,4 @@
--- How a string is read, byte by byte. It serves the proof.
+-- Serves the proof: how a string is read, byte by byte.
 use Rattle.std.specs.Prelude.{◌==◌, ℕ, ◌+◌, ◌-◌, ◌<◌, ◌≤◌, if◌then◌else◌, Option, Some, None, List, length, take, nat_lt}
 use Rattle.sv_lex.specs.Bytes.{is_hex_digit}
 use Rattle.sv_lex.specs.Forms.{IsString, is_plain, is_escaped}

@@ -1,4 +1,4 @@
--- Which tokens a text has: `Tokens text list`.
+-- Believed: which tokens a text has, `Tokens text list`. Hold it against docs/language.md on tokens and annotation lines.
 use Rattle.std.specs.Prelude.{◌≡◌, ◌≢◌, ℕ, ◌+◌, Bool, true, false, not, ◌&&◌, if◌then◌else◌, List, [], ◌∷◌, ◌++◌, Contains, codes, length}
 use Rattle.std.specs.List.{AllPass}
 use Rattle.sv_lex.specs.Bytes.{is_blank, is_newline, is_slash, is_star}

@@ -3,7 +3,7 @@
 ghost use Rattle.std.specs.Prelude.{◌≡◌, ◌++◌, ◌<◌, ◌≤◌, false, length, take, slice_index};
 ghost use Rattle.std.specs.List.{AllPass};
 ghost use Rattle.sv_lex.specs.Bytes.{DoesNotBegin};
-ghost use Rattle.sv_lex.specs.Classes.{is_of};
+ghost use Rattle.sv_lex.specs.ByteTests.{is_of};
 
 /// What a byte may be.
 #[derive(Clone, Copy)]

@@ -4,7 +4,7 @@ ghost use Rattle.std.specs.Option.{option_copied};
 ghost use Rattle.std.specs.Prelude.{◌↔◌, ℕ, List, IfSome, IfNone, IsTrue, Contains};
 ghost use Rattle.sv_lex.specs.Annotations.{IsLeadOf, OpensAs, DocumentsAs, SplitsLine};
 ghost use Rattle.sv_lex.specs.Pieces.{Fits};
-ghost use Rattle.sv_lex.specs.Reading.{piece_of};
+ghost use Rattle.sv_lex.specs.TextReading.{piece_of};
 ghost use Rattle.sv_lex.specs.Tokens as g;
 ghost use Rattle.sv_lex.specs.Tokens.{Opens, annotation_words};
 

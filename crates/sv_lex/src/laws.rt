@@ -1,6 +1,6 @@
 //! Laws of the definitions, each as the contract of a function without a body.
 
-ghost use Rattle.sv_lex.specs.Laws.{ListIsOne, FaultExcludesList, FaultIsOne, TokensAreSlices};
+ghost use Rattle.sv_lex.specs.TokenLaws.{ListIsOne, FaultExcludesList, FaultIsOne, TokensAreSlices};
 
 /// A text has at most one list of tokens.
 pub fn list_is_one()

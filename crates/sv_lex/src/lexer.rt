@@ -1,10 +1,8 @@
 //! The tokens of a text.
 
-ghost use Rattle.std.specs.Prelude.{List, ℕ};
-ghost use Rattle.sv_lex.specs.Collecting.{IsReady, IsSlice, AddsContent, AddsLine, AddsLines, AddsPiece, AddsText, IsWhole};
+ghost use Rattle.sv_lex.specs.Collecting.{IsReady, IsSlice, StandsAt, AddsContent, AddsLine, AddsLines, AddsPiece, AddsText, IsWhole};
 ghost use Rattle.sv_lex.specs.Lexing.{Answers};
-ghost use Rattle.sv_lex.specs.Pieces.{Fits, written};
-ghost use Rattle.sv_lex.specs.Reading.{piece_of};
+ghost use Rattle.sv_lex.specs.TextReading.{piece_of};
 
 use crate::collector::Collector;
 use crate::documentation::{Documentation, documentation_of, split_line, split_opening};
@@ -88,8 +86,7 @@ fn add_lines(
 /// Adds the tokens of a piece, which begins at the offset.
 fn add_piece(collector: &mut Collector<'_>, at: usize, shape: &Shape<'_>) -> Result<(), Stop>
     requires ready { IsReady collector.old.source.now collector.old at }
-    requires slice { IsSlice collector.old.source.now at (written (piece_of shape.now)) }
-    requires formed { (rest : List ℕ) × Fits (piece_of shape.now) rest }
+    requires stands { StandsAt collector.old.source.now at (piece_of shape.now) }
     ensures adds { AddsPiece at (piece_of shape.now) collector.old result collector.new }
 {
     if let Shape::Token(kind, bytes) = shape {

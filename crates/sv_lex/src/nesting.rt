@@ -3,7 +3,7 @@
 ghost use Rattle.std.specs.Prelude.{◌≡◌};
 ghost use Rattle.sv_lex.specs.Lexing.{GivesFirst, shown};
 ghost use Rattle.sv_lex.specs.Limits.{IsDeep, restarts};
-ghost use Rattle.sv_lex.specs.Nesting.{IsBracket};
+ghost use Rattle.sv_lex.specs.NestingFound.{IsBracket};
 
 use crate::tok::Tok;
 use crate::token::Token;

@@ -2,7 +2,7 @@
 
 ghost use Rattle.std.specs.Prelude.{◌≡◌, ◌++◌, ◌≤◌, ◌<◌, ℕ, List, true, length, take, drop};
 ghost use Rattle.sv_lex.specs.Bytes.{is_digit, DoesBegin};
-ghost use Rattle.sv_lex.specs.Classes.{is_of};
+ghost use Rattle.sv_lex.specs.ByteTests.{is_of};
 ghost use Rattle.sv_lex.specs.Forms.{IsDecimal, IsHexadecimal, IsExponent, is_grouped, is_group};
 ghost use Rattle.sv_lex.specs.Longest.{IsLongestSuch};
 

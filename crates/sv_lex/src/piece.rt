@@ -3,7 +3,7 @@
 ghost use Rattle.std.specs.Prelude.{◌≡◌, ◌≢◌, ◌++◌, ◌≤◌, [], codes, drop, length, take};
 ghost use Rattle.sv_lex.specs.Bytes.{begins_word, is_digit, is_quote, DoesBegin};
 ghost use Rattle.sv_lex.specs.Pieces as g;
-ghost use Rattle.sv_lex.specs.Reading.{ReadsPiece, StartsCut, BeginsNothing, piece_of};
+ghost use Rattle.sv_lex.specs.TextReading.{ReadsPiece, StartsCut, BeginsNothing, piece_of};
 
 use crate::bytes::{Class, split_run};
 use crate::comment::split_at_end;

@@ -1,4 +1,4 @@
--- Where a byte of a text stands. Lines and columns are counted from 1, columns in bytes.
+-- Believed: where a byte of a text stands; lines and columns are counted from 1, columns in bytes. Hold it against docs/language.md on places.
 use Rattle.std.specs.Prelude.{◌==◌, ◌+◌, Bool, List, count_by, length, take, ℕ}
 use Rattle.std.specs.List.{after_last}
 

@@ -1,7 +1,7 @@
 -- A byte that is passed over is of the class.
 use Rattle.std.proofs.Common.{◌≡◌, true, sym, ◌∙◌}
 use Rattle.std.proofs.lemmas.List.Elements.{All-more}
-use Rattle.sv_lex.specs.Classes.{is_of}
+use Rattle.sv_lex.specs.ByteTests.{is_of}
 use Rattle.sv_lex.proofs.bytes.run_len.Goals as goal
 
 pub loop-i-preserved : goal.loop-i-preserved

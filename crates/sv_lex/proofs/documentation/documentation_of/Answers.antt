@@ -1,7 +1,7 @@
 use Rattle.std.proofs.Common.{true, false, sym, subst}
 use Rattle.sv_lex.specs.Annotations.{IsNote}
 use Rattle.sv_lex.specs.Pieces.{Fits}
-use Rattle.sv_lex.specs.Reading.{piece_of}
+use Rattle.sv_lex.specs.TextReading.{piece_of}
 use Rattle.sv_lex.proofs.NoteLemmas.{line_is_note, block_is_note}
 use Rattle.sv_lex.proofs.documentation.documentation_of.Goals as goal
 

@@ -1,6 +1,6 @@
 use Rattle.std.proofs.Common.{◌+◌, ◌-◌, length, refl, subst, arith}
 use Rattle.sv_lex.specs.Pieces.{Starts, token}
-use Rattle.sv_lex.specs.Reading.{piece_of}
+use Rattle.sv_lex.specs.TextReading.{piece_of}
 use Rattle.sv_lex.proofs.CollectLemmas.{slice_within}
 use Rattle.sv_lex.proofs.LoopLemmas.{content_stuck, content_start, content_token, content_other, place_of_rest, starts_shorter}
 use Rattle.sv_lex.proofs.StuckLaws.{stuck_within}

@@ -4,7 +4,7 @@ use Rattle.std.proofs.lemmas.Bool.{eqb-true}
 use Rattle.std.proofs.lemmas.Result.{err_from_is_err_and}
 use Rattle.sv_lex.specs.Collecting.{IsReady, IsSlice}
 use Rattle.sv_lex.specs.Pieces.{written, all_written}
-use Rattle.sv_lex.specs.Reading.{piece_of}
+use Rattle.sv_lex.specs.TextReading.{piece_of}
 use Rattle.sv_lex.proofs.CollectLemmas.{ready_from}
 use Rattle.sv_lex.proofs.LoopLemmas.{text_start, text_here, text_slice, text_more, text_stuck, text_stops, text_end, place_of_rest, starts_shorter}
 use Rattle.sv_lex.proofs.StuckLaws.{stuck_within}
@@ -41,9 +41,11 @@ add_piece-requires c =
     let here = length text - length rest in record {
       ready = ready_from c.args.collector.now c.loop-rest.collector s.tokens (length (all_written s.pieces)) here s.added
           (text_here text rest c.args.collector.now c.loop-rest.collector s);
-      slice = subst (λ source. IsSlice source here (written (piece_of c.in-Ok.cut.shape))) (sym (s.added.ready.source_is ∙ c.requires.ready.source_is))
-          (text_slice text rest c.in-Ok.cut.rest.now c.args.collector.now c.loop-rest.collector (piece_of c.in-Ok.cut.shape) s c.in-Ok.ensures);
-      formed = (c.in-Ok.cut.rest.now, c.in-Ok.ensures.fits);
+      stands = record {
+        slice = subst (λ source. IsSlice source here (written (piece_of c.in-Ok.cut.shape))) (sym (s.added.ready.source_is ∙ c.requires.ready.source_is))
+            (text_slice text rest c.in-Ok.cut.rest.now c.args.collector.now c.loop-rest.collector (piece_of c.in-Ok.cut.shape) s c.in-Ok.ensures);
+        formed = (c.in-Ok.cut.rest.now, c.in-Ok.ensures.fits);
+      };
     }
 
 pub returns-in-Err : goal.returns-in-Err

@@ -1,7 +1,7 @@
 use Rattle.std.proofs.Common.{◌≡◌, ℕ, ◌+◌, ◌<◌, ◌≤◌, ◌∙◌, List, [], if◌then◌else◌, map, take, sym, ap, subst, inl, inr, get_or}
 use Rattle.sv_lex.specs.Lexing.{shown}
 use Rattle.sv_lex.specs.Limits.{IsDeep}
-use Rattle.sv_lex.specs.Nesting.{IsShallow}
+use Rattle.sv_lex.specs.NestingFound.{IsShallow}
 use Rattle.sv_lex.specs.declared.tok.Tok.TheVariants.{Word}
 use Rattle.sv_lex.specs.declared.token.Token.{Token}
 use Rattle.sv_lex.proofs.LimitLemmas.{given_first, HasNo-all, changed, changed-opens, changed-closes, changed-none, counted, is_deep, is_shallow, shallow_start}

@@ -1,6 +1,6 @@
 use Rattle.std.proofs.Common.{map, take}
 use Rattle.sv_lex.specs.Lexing.{shown}
-use Rattle.sv_lex.specs.Nesting.{IsShallow}
+use Rattle.sv_lex.specs.NestingFound.{IsShallow}
 use Rattle.sv_lex.proofs.nesting.deep.Given as goal
 
 abbrev pub invariant-loop-token : goal.invariant-loop-token

@@ -1,7 +1,7 @@
 -- Where the digits end, no longer front is a group.
 use Rattle.std.proofs.Common.{◌≡◌, ◌⊎◌, ◌==◌, ◌&&◌, false, get_or, nat_lt, sym, ◌∙◌, inl, inr, arith}
 use Rattle.std.proofs.lemmas.Bool.{and_left, and_right, ne_eqb, le-ltb}
-use Rattle.sv_lex.specs.Classes.{is_of}
+use Rattle.sv_lex.specs.ByteTests.{is_of}
 use Rattle.sv_lex.proofs.NumberLemmas.{group_stops, group_ends}
 use Rattle.sv_lex.proofs.number.group_len.Goals as goal
 use Rattle.sv_lex.proofs.number.group_len.Goals.{then-byte-ne95-via-then-byte-ne95, then-byte-ne95-via-else-byte-ne95+then-len-i, then-byte-ne95-via-else-byte-ne95+else-len-i+then-i-eq0}

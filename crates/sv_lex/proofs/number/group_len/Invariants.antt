@@ -1,5 +1,5 @@
 -- How far the digits before the index go.
-use Rattle.sv_lex.specs.Classes.{is_of}
+use Rattle.sv_lex.specs.ByteTests.{is_of}
 use Rattle.sv_lex.proofs.NumberLemmas.{ReadsGroup}
 use Rattle.sv_lex.proofs.number.group_len.Given as goal
 

@@ -1,4 +1,4 @@
--- What the code reads of a text. It serves the proof.
+-- Serves the proof: what the code reads of a text.
 use Rattle.std.specs.Prelude.{◌≡◌, ℕ, false, ◌||◌, List, [], ◌∷◌, Result, Ok, Err}
 use Rattle.sv_lex.specs.Bytes.{is_separator, begins_word, is_digit, is_quote}
 use Rattle.sv_lex.specs.Faults.{IsStuck}

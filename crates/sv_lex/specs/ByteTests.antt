@@ -1,4 +1,4 @@
--- The tests of the code's classes of bytes. It serves the proof.
+-- Serves the proof: the tests of the code's classes of bytes.
 use Rattle.std.specs.Prelude.{ℕ, Bool, not}
 use Rattle.sv_lex.specs.Bytes.{is_digit, is_hex_digit, begins_word, continues_word, is_blank, is_star, is_separator, is_newline, is_semicolon}
 use Rattle.sv_lex.specs.declared.bytes.Class.{Class}

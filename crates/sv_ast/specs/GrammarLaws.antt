@@ -1,4 +1,4 @@
--- What holds of the grammar.
+-- Believed: what the laws of the grammar say: a list of tokens has one tree at most. Hold it against docs/grammar.md.
 use Rattle.std.specs.Prelude.{◌≡◌, ◌≢◌, ℕ, List, AllPairs}
 use Rattle.sv_grammar.specs.Grammar.{Token, Tree, Derives, side}
 use Rattle.sv_ast.specs.Syntax.{Side, rules}

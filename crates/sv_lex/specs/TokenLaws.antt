@@ -1,4 +1,4 @@
--- The laws of the definitions of tokens and of first faults.
+-- Believed: what the laws of tokens and of first faults say: a text has one list or one fault at most. Hold it against docs/language.md on tokens.
 use Rattle.std.specs.Prelude.{◌≡◌, ℕ, ◌+◌, ◌≤◌, List, [], ◌∷◌, All, length, slice_range}
 use Rattle.sv_lex.specs.Faults.{FirstFault}
 use Rattle.sv_lex.specs.Tokens.{Lexeme, Tokens}

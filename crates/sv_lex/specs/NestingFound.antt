@@ -1,4 +1,4 @@
--- What the code finds of a token's nesting. It serves the proof.
+-- Serves the proof: what the code finds of a token's nesting.
 use Rattle.std.specs.Prelude.{◌≡◌, ℕ, ◌+◌, ◌≤◌, true, false, if◌then◌else◌, List, [], ◌∷◌}
 use Rattle.sv_lex.specs.Limits.{opens_bracket, closes_bracket, opened, restarts, HasNo, IsDeep}
 use Rattle.sv_lex.specs.Tokens.{Lexeme}
