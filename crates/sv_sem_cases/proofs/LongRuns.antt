@@ -1,10 +1,10 @@
 -- Longer runs that fail at their end, with each view on the way.
-use Rattle.std.proofs.Common.{◌≡◌, ◌∙◌, zero, suc, Bool, true, false, Some, List, [], ◌∷◌, inl, inr, pos, refl, sym, ap, true≢false}
+use Rattle.std.proofs.Common.{◌≡◌, ◌∙◌, zero, suc, Bool, true, false, Some, [], ◌∷◌, inl, inr, pos, refl, sym, ap, true≢false}
 use Rattle.sv_type.specs.StorageTrees.{Num, Struct, Arr, Map, End, Field, Empty, Entry, At, Index}
 use Rattle.sv_core.specs.declared.contract.VarKind.{VarKind}
 use Rattle.sv_core.specs.declared.contract.VarKind.TheVariants as variable
 use Rattle.sv_core.specs.PlainCore.{Variable}
-use Rattle.sv_sem.specs.States.{Held, Value, Pointer, Path, State, View, root, below, set_local, with_state, with_tree}
+use Rattle.sv_sem.specs.States.{Value, Pointer, Path, State, View, root, below, set_local, with_state, with_tree}
 use Rattle.sv_sem.specs.NamedParts.{ToLocal, ToPath}
 use Rattle.sv_sem.specs.AnnotationTruth.{true_limits}
 use Rattle.sv_sem.specs.RunParts.{Done, func_at, entered, into_modifier, at_rest, after_rest}

@@ -17,7 +17,7 @@ use Rattle.sv_sem.specs.WellTyped.{WellMemory, WellView}
 use Rattle.sv_sem.specs.Changes.{Assigns}
 use Rattle.sv_sem.specs.ModularRuns.{Verdict, EndsIn, Fails, Finishes, Forgets, RunsAll, NoRest, assert_label, label_at}
 use Rattle.sv_sem.specs.MayFail.{RunsBodies, credited}
-use Rattle.sv_sem_cases.specs.Writing.{at, body}
+use Rattle.sv_sem_cases.specs.Writing.{at}
 use Rattle.sv_sem_cases.specs.BankHistories.{late}
 use Rattle.sv_sem_cases.specs.CallHistories.{exact}
 use Rattle.sv_sem_cases.specs.ContractHistories.{setter, never_born}

@@ -5,3 +5,4 @@ pub mod CallHistories
 pub mod ContractHistories
 pub mod Verdicts
 pub mod LongVerdicts
+pub mod HeldVerdicts

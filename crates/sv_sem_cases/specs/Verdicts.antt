@@ -5,7 +5,7 @@ use Rattle.sv_core.specs.declared.label.FuncId.TheVariants as func
 use Rattle.sv_core.specs.declared.expr.Op.TheVariants as op
 use Rattle.sv_core.specs.PlainCode as code
 use Rattle.sv_core.specs.PlainCode.{Act}
-use Rattle.sv_core.specs.PlainCore.{Contract, Function}
+use Rattle.sv_core.specs.PlainCore.{Contract}
 use Rattle.sv_sem.specs.ModularRuns.{label_at, assert_label, end_label}
 use Rattle.sv_sem.specs.MayFail.{MayFail}
 use Rattle.sv_sem_cases.specs.Writing.{bool, uint, at, types_and, node, num, local, var, test, compute, body, external, contract, state_of, param}

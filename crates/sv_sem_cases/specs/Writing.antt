@@ -12,7 +12,7 @@ use Rattle.sv_core.specs.declared.expr.EnvName.TheVariants as env
 use Rattle.sv_core.specs.PlainCode as code
 use Rattle.sv_core.specs.PlainCode.{Expr, Kind, Act, Stmts}
 use Rattle.sv_core.specs.PlainCore.{Contract, Function, Variable, Constructor}
-use Rattle.sv_sem.specs.States.{Held, Value, State}
+use Rattle.sv_sem.specs.States.{Held, Value}
 use Rattle.sv_sem.specs.AnnotationTruth.{true_limits, holds, at_view, at_state, at_end, Reading}
 use Rattle.sv_sem.specs.Adversary.{Visits, Event, Comes, Events, NoEvent, ThenEvent, Reply, AReply, Replies, NoReply, ThenReply, Mark, AtState, AtEnd, Broken}
 use Rattle.sv_sem.specs.RunParts.{results_of}

@@ -3,6 +3,7 @@ ghost use Rattle.sv_sem_cases.specs.PointerHistories.{OneElement, TwoElements, N
 ghost use Rattle.sv_sem_cases.specs.CallHistories.{GasEnds, FailedReply, MisfitReply, MissingReply, GiftInside, NotPayable, NoVisit, FailedSend, SendThatSucceeds, SendOfTooMuch, LockHolds, ForcedEther, EtherBefore};
 ghost use Rattle.sv_sem_cases.specs.ContractHistories.{Diamond, Precondition, TwoTurns, TooLittleGas, NoTurn, LoopThatBreaks, BreakWithoutGas, NeverBorn, Born, ModifierTwice, TokensFromNothing, NarrowSum, TypedResult, SeveralResults};
 ghost use Rattle.sv_sem_cases.specs.Verdicts.{GiftBreaks, ConstructionBreaks, NeverBornHolds, NoGiftToTheUnborn, PreconditionIsNoLicence, WideLimitFails, PreconditionFails, BankFailsAtCall, LoopWithoutInvariant, NoInvariantNoFailure};
+ghost use Rattle.sv_sem_cases.specs.HeldVerdicts.{NarrowSumHolds, LoopWithInvariantHolds, FailedSendHolds};
 ghost use Rattle.sv_sem_cases.specs.LongVerdicts.{PointersMayBeOne, LockIsForgotten};
 
 /// A bank that sends before it subtracts is attacked; one that subtracts first resists.
@@ -75,4 +76,11 @@ pub fn verdicts()
 pub fn long_verdicts()
     ensures pointers_may_be_one { PointersMayBeOne }
     ensures lock_is_forgotten { LockIsForgotten }
+{}
+
+/// Checks that can't fail: a narrow sum, a loop with its invariant, and a `send` that fails.
+pub fn held_verdicts()
+    ensures narrow_sum_holds { NarrowSumHolds }
+    ensures loop_with_invariant_holds { LoopWithInvariantHolds }
+    ensures failed_send_holds { FailedSendHolds }
 {}
