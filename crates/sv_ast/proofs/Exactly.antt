@@ -1,16 +1,17 @@
 -- What is read is the longest beginning of a list that the side derives, and a list has one tree.
 use Rattle.std.proofs.Common.{◌≡◌, ℕ, List, [], ◌∷◌, Some, refl}
 use Rattle.std.specs.Prelude.{slice_get}
-use Rattle.sv_grammar.specs.Grammar.{Token, Tree, Derives, side}
+use Rattle.sv_grammar.specs.Grammar.{Token, side}
 use Rattle.sv_grammar.specs.Reading.{Outcome, Exact, Reads, AllDistinct}
 use Rattle.sv_grammar.proofs.Checks.{reads_exactly}
 use Rattle.sv_grammar.proofs.InStep.{all_distinct_in_step}
-use Rattle.sv_grammar.proofs.Trees.{one_tree}
+use Rattle.sv_grammar.proofs.Trees.{one_tree, same_tree}
 use Rattle.sv_ast.specs.Syntax.{Side, rules}
 use Rattle.sv_ast.specs.Syntax as g
 use Rattle.sv_ast.specs.Firsts.{nulls, firsts}
+use Rattle.sv_ast.specs.GrammarLaws.{TreeIsOne, NotesAreOne}
 use Rattle.sv_ast.proofs.Tables.{conts, all_chars, rounds, checked}
-use Rattle.sv_ast.proofs.Apart.{apart}
+use Rattle.sv_ast.proofs.Apart.{apart, right_tables}
 
 pub exactly : (s : Side) (ts : List Token) (o : Outcome) → Reads rules nulls firsts (side s) ts o → Exact rules (side s) ts o
 exactly s ts o r = reads_exactly rules nulls firsts conts all_chars rounds checked apart s ts o r
@@ -18,7 +19,7 @@ exactly s ts o r = reads_exactly rules nulls firsts conts all_chars rounds check
 -- ---- the sides, numbered
 
 abbrev sides : List Side
-sides = g.unit ∷ g.file_const ∷ g.contract ∷ g.bases ∷ g.base ∷ g.part ∷ g.variable ∷ g.var_word ∷ g.function ∷ g.ctor ∷ g.special ∷ g.modifier ∷ g.head ∷ g.over ∷ g.struct ∷ g.field ∷ g.enum ∷ g.event ∷ g.ev_par ∷ g.error ∷ g.er_par ∷ g.params ∷ g.param ∷ g.location ∷ g.type ∷ g.plain ∷ g.note_line ∷ g.block ∷ g.stmt ∷ g.body ∷ g.if ∷ g.while ∷ g.for ∷ g.simple ∷ g.return ∷ g.decl ∷ g.tuple ∷ g.slot ∷ g.action ∷ g.assign_op ∷ g.args ∷ g.expr ∷ g.or ∷ g.and ∷ g.same ∷ g.less ∷ g.sum ∷ g.prod ∷ g.term ∷ g.unary ∷ g.power ∷ g.post ∷ g.atom ∷ g.unit10 ∷ g.else_part ∷ g.suffix ∷ g.after_name ∷ g.after_longer ∷ g.new_name ∷ g.name_type ∷ g.name_plain ∷ g.new_longer ∷ g.longer_type ∷ g.longer_plain ∷ []
+sides = g.unit ∷ g.file_const ∷ g.contract ∷ g.bases ∷ g.base ∷ g.part ∷ g.variable ∷ g.var_word ∷ g.function ∷ g.ctor ∷ g.special ∷ g.modifier ∷ g.head ∷ g.over ∷ g.struct ∷ g.field ∷ g.enum ∷ g.event ∷ g.ev_par ∷ g.error ∷ g.er_par ∷ g.params ∷ g.param ∷ g.location ∷ g.type ∷ g.plain ∷ g.note_line ∷ g.block ∷ g.stmt ∷ g.body ∷ g.if ∷ g.while ∷ g.for ∷ g.simple ∷ g.return ∷ g.decl ∷ g.tuple ∷ g.slot ∷ g.action ∷ g.assign_op ∷ g.args ∷ g.expr ∷ g.or ∷ g.and ∷ g.same ∷ g.less ∷ g.sum ∷ g.prod ∷ g.term ∷ g.unary ∷ g.power ∷ g.post ∷ g.atom ∷ g.unit10 ∷ g.else_part ∷ g.suffix ∷ g.after_name ∷ g.after_longer ∷ g.new_name ∷ g.name_type ∷ g.name_plain ∷ g.new_longer ∷ g.longer_type ∷ g.longer_plain ∷ g.while_word ∷ g.for_word ∷ []
 
 abbrev number : Side → ℕ
 number g.unit = 0
@@ -85,6 +86,8 @@ number g.name_plain = 60
 number g.new_longer = 61
 number g.longer_type = 62
 number g.longer_plain = 63
+number g.while_word = 64
+number g.for_word = 65
 
 numbered : (s : Side) → slice_get sides (number s) ≡ Some s
 numbered g.unit = refl
@@ -151,6 +154,8 @@ numbered g.name_plain = refl
 numbered g.new_longer = refl
 numbered g.longer_type = refl
 numbered g.longer_plain = refl
+numbered g.while_word = refl
+numbered g.for_word = refl
 
 -- no list is derived by both alternatives of a `both`
 distinct : (s : Side) → AllDistinct rules (rules s)
@@ -192,6 +197,8 @@ distinct g.block = tt
 distinct g.body = tt
 distinct g.if = tt
 distinct g.while = tt
+distinct g.while_word = tt
+distinct g.for_word = tt
 distinct g.decl = tt
 distinct g.tuple = tt
 distinct g.action = tt
@@ -219,5 +226,8 @@ distinct g.name_plain = tt
 distinct g.new_longer = tt
 distinct g.longer_plain = tt
 
-pub tree_is_one : (s : Side) (tokens : List Token) (t u : Tree) → Derives rules (side s) tokens t → Derives rules (side s) tokens u → t ≡ u
+pub tree_is_one : TreeIsOne
 tree_is_one s tokens t u = one_tree rules nulls firsts conts all_chars rounds checked apart distinct
+
+pub notes_are_one : NotesAreOne
+notes_are_one tokens t u d k = same_tree right_tables apart distinct d k refl refl tt tt

@@ -1,7 +1,7 @@
 -- The tables of the grammar are right. Each number is a class of tokens.
 use Rattle.std.proofs.Common.{◌≡◌, ℕ, List, [], ◌∷◌, true, refl}
 use Rattle.sv_grammar.specs.Reading.{is_checked, nulls_at, firsts_at, made_at}
-use Rattle.sv_ast.specs.Syntax.{Side, unit, file_const, contract, bases, base, part, variable, var_word, function, ctor, special, modifier, head, over, struct, field, enum, event, ev_par, error, er_par, params, param, location, type, plain, note_line, block, stmt, body, if, while, for, simple, return, decl, tuple, slot, action, assign_op, args, expr, or, and, same, less, sum, prod, term, unary, power, post, atom, unit10, else_part, suffix, after_name, after_longer, new_name, name_type, name_plain, new_longer, longer_type, longer_plain, rules, but_semicolon}
+use Rattle.sv_ast.specs.Syntax.{Side, unit, file_const, contract, bases, base, part, variable, var_word, function, ctor, special, modifier, head, over, struct, field, enum, event, ev_par, error, er_par, params, param, location, type, plain, note_line, block, stmt, body, if, while, while_word, for, for_word, simple, return, decl, tuple, slot, action, assign_op, args, expr, or, and, same, less, sum, prod, term, unary, power, post, atom, unit10, else_part, suffix, after_name, after_longer, new_name, name_type, name_plain, new_longer, longer_type, longer_plain, rules, but_semicolon}
 use Rattle.sv_ast.specs.Firsts.{nulls, firsts}
 
 -- ---- what may come after tokens of a side, where the side goes on
@@ -52,7 +52,9 @@ conts body = []
 conts if = 21 ∷ []
 conts else_part = 21 ∷ []
 conts while = []
+conts while_word = []
 conts for = []
+conts for_word = []
 conts simple = conts_of_simple
 conts return = conts_of_simple
 conts decl = 19 ∷ 25 ∷ 32 ∷ 33 ∷ 42 ∷ 46 ∷ 54 ∷ 66 ∷ 67 ∷ 70 ∷ 72 ∷ 74 ∷ 77 ∷ 78 ∷ 81 ∷ 82 ∷ 83 ∷ 84 ∷ 85 ∷ 86 ∷ 87 ∷ 88 ∷ 89 ∷ 90 ∷ 91 ∷ 92 ∷ 93 ∷ 94 ∷ 95 ∷ 101 ∷ 102 ∷ []
@@ -138,7 +140,9 @@ all_chars body = all_chars_of_block
 all_chars if = all_chars_of_block
 all_chars else_part = all_chars_of_block
 all_chars while = all_chars_of_block
+all_chars while_word = 68 ∷ []
 all_chars for = all_chars_of_block
+all_chars for_word = 30 ∷ []
 all_chars simple = 1 ∷ 2 ∷ 3 ∷ 4 ∷ 5 ∷ 11 ∷ 13 ∷ 14 ∷ 17 ∷ 19 ∷ 20 ∷ 22 ∷ 24 ∷ 25 ∷ 29 ∷ 32 ∷ 33 ∷ 40 ∷ 41 ∷ 42 ∷ 44 ∷ 46 ∷ 51 ∷ 53 ∷ 54 ∷ 55 ∷ 56 ∷ 58 ∷ 59 ∷ 60 ∷ 61 ∷ 63 ∷ 66 ∷ 67 ∷ 69 ∷ 70 ∷ 71 ∷ 72 ∷ 73 ∷ 74 ∷ 75 ∷ 76 ∷ 77 ∷ 78 ∷ 79 ∷ 80 ∷ 81 ∷ 82 ∷ 83 ∷ 84 ∷ 85 ∷ 86 ∷ 87 ∷ 88 ∷ 89 ∷ 90 ∷ 91 ∷ 92 ∷ 93 ∷ 94 ∷ 95 ∷ 96 ∷ 97 ∷ 98 ∷ 99 ∷ 100 ∷ 101 ∷ 102 ∷ 103 ∷ []
 all_chars return = 1 ∷ 2 ∷ 3 ∷ 4 ∷ 5 ∷ 11 ∷ 19 ∷ 24 ∷ 25 ∷ 29 ∷ 32 ∷ 33 ∷ 40 ∷ 42 ∷ 44 ∷ 46 ∷ 51 ∷ 53 ∷ 54 ∷ 56 ∷ 58 ∷ 59 ∷ 60 ∷ 61 ∷ 63 ∷ 66 ∷ 67 ∷ 70 ∷ 71 ∷ 72 ∷ 73 ∷ 74 ∷ 75 ∷ 76 ∷ 77 ∷ 78 ∷ 79 ∷ 80 ∷ 82 ∷ 83 ∷ 84 ∷ 85 ∷ 86 ∷ 87 ∷ 88 ∷ 89 ∷ 90 ∷ 91 ∷ 92 ∷ 93 ∷ 94 ∷ 95 ∷ 101 ∷ 102 ∷ 103 ∷ []
 all_chars decl = all_chars_of_decl
@@ -209,7 +213,9 @@ checked body = refl
 checked if = refl
 checked else_part = refl
 checked while = refl
+checked while_word = refl
 checked for = refl
+checked for_word = refl
 checked simple = refl
 checked return = refl
 checked decl = refl

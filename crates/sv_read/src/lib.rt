@@ -7,7 +7,6 @@
 #![tactic(auto)]
 
 mod both;
-mod class;
 mod cursor;
 mod either;
 mod listed;
@@ -18,20 +17,20 @@ mod symbol;
 mod word;
 
 pub use both::{Both, Classes};
-pub use class::Class;
 pub use cursor::{Cursor, Extent};
 pub use either::Either;
 pub use listed::{Commas, Led, Listed};
 pub use parse::{Begins, Nested, Parse};
 pub use parse_error::ParseError;
 pub use parts::with;
-pub use symbol::Symbol;
+pub use sv_ast::Class;
+pub use symbol::{Symbol, class_of};
 pub use word::{Kept, Word, behind};
 
 /// The classes by the numbers that `Word` and `Kept` name them by.
 #[rattlefmt::skip]
 pub mod words {
-    use crate::class::Class;
+    use sv_ast::Class;
 
     pub const ID: u8 = Class::Id as u8; pub const NUMBER: u8 = Class::Number as u8;
     pub const HEXADECIMAL: u8 = Class::Hexadecimal as u8;
