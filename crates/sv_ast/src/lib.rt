@@ -7,7 +7,6 @@
 #![tactic(auto)]
 
 mod class;
-mod classes;
 mod contract;
 mod expr;
 pub mod laws;
@@ -18,8 +17,7 @@ mod stmt;
 mod types;
 mod unit;
 
-pub use class::Class;
-pub use classes::{class_of_mark, class_of_word};
+pub use class::{Class, class_of_mark, class_of_word, words};
 pub use contract::{
     Base, Bases, Contract, ContractKind, Ctor, Function, Head, HeadKind, Modifier, ModifierWord,
     Over, Param, Params, Part, PartKind, Special, VarWord, VarWordKind, Variable, VariableWord,

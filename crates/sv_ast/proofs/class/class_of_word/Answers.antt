@@ -3,7 +3,7 @@ use Rattle.sv_ast.specs.declared.class.Class.{Class}
 use Rattle.sv_ast.specs.declared.class.Class.TheVariants.{Elementary, Other, Id}
 use Rattle.sv_ast.specs.Terminals.{Spelling, words}
 use Rattle.sv_ast.specs.Classes.{class_of_word, class_in, is_one_of, elementary_names, reserved_words}
-use Rattle.sv_ast.proofs.classes.class_of_word.Goals as goal
+use Rattle.sv_ast.proofs.class.class_of_word.Goals as goal
 
 -- the class of a word that the grammar does not have
 abbrev class_otherwise : Bool → Bool → Class

@@ -4,7 +4,7 @@ use Rattle.std.proofs.lemmas.Iterator.{YieldsList-from_slice}
 use Rattle.std.proofs.lemmas.Iterator.Search.{any_from_yields_List}
 use Rattle.sv_ast.specs.Classes.{is_same}
 use Rattle.sv_ast.proofs.ClassLemmas.{any_map}
-use Rattle.sv_ast.proofs.classes.is_one_of.Goals as goal
+use Rattle.sv_ast.proofs.class.is_one_of.Goals as goal
 
 pub returns : goal.returns
 returns c =

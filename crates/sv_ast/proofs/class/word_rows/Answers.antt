@@ -1,6 +1,6 @@
 use Rattle.std.proofs.Common.{refl}
 use Rattle.sv_ast.specs.Terminals.{words}
-use Rattle.sv_ast.proofs.classes.word_rows.Goals as goal
+use Rattle.sv_ast.proofs.class.word_rows.Goals as goal
 
 pub returns : goal.returns
 unfolding words

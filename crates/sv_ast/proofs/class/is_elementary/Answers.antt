@@ -1,5 +1,5 @@
 use Rattle.sv_ast.specs.Classes.{sizes, elementary_names}
-use Rattle.sv_ast.proofs.classes.is_elementary.Goals as goal
+use Rattle.sv_ast.proofs.class.is_elementary.Goals as goal
 
 pub returns : goal.returns
 unfolding elementary_names sizes

@@ -1,5 +1,5 @@
 use Rattle.sv_ast.specs.Classes.{reserved_words}
-use Rattle.sv_ast.proofs.classes.is_reserved.Goals as goal
+use Rattle.sv_ast.proofs.class.is_reserved.Goals as goal
 
 pub returns : goal.returns
 unfolding reserved_words

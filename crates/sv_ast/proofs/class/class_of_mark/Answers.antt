@@ -1,7 +1,7 @@
 use Rattle.std.proofs.Common.{sym, ◌∙◌, ap}
 use Rattle.sv_ast.specs.declared.class.Class.TheVariants.{Other}
 use Rattle.sv_ast.specs.Classes.{class_of_mark, class_in}
-use Rattle.sv_ast.proofs.classes.class_of_mark.Goals as goal
+use Rattle.sv_ast.proofs.class.class_of_mark.Goals as goal
 
 pub returns-in-Some : goal.returns-in-Some
 unfolding class_of_mark
