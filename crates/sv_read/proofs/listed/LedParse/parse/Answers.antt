@@ -1,6 +1,6 @@
 use Rattle.std.proofs.Common.{sym, ◌∙◌, ap, map, length, arith, refl}
 use Rattle.sv_grammar.specs.Grammar.{pair, unit}
-use Rattle.sv_read.specs.Reading.{no_memory}
+use Rattle.sv_read.specs.PartReading.{no_memory}
 use Rattle.sv_read.proofs.Exits.{left_by}
 use Rattle.sv_read.proofs.Moving.{moves}
 use Rattle.sv_read.proofs.Nesting.{may_behind}

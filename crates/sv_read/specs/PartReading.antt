@@ -3,9 +3,10 @@ use Rattle.std.specs.Prelude.{◌≡◌, ℕ, ◌≤◌, List, ◌∷◌, map, d
 use Rattle.sv_grammar.specs.Grammar.{Part, Tree, unit, pair, star, seq}
 use Rattle.sv_grammar.specs.Named.{Spells}
 use Rattle.sv_grammar.specs.Reading as r
-use Rattle.sv_grammar.specs.Reading.{found, fault, append_trees}
+use Rattle.sv_grammar.specs.Reading.{found, fault}
+use Rattle.sv_grammar.specs.ListTrees.{append_trees}
 use Rattle.sv_ast.specs.Syntax.{Side, rules, quoted}
-use Rattle.sv_ast.specs.Terminals as k
+use Rattle.sv_ast.specs.declared.class.Class.TheVariants as k
 use Rattle.sv_ast.specs.Firsts.{nulls, firsts}
 use Rattle.sv_read.specs.Here.{Here}
 use Rattle.sv_read.specs.declared.parse_error.ParseError.{ParseError}
@@ -51,4 +52,4 @@ pub record Lists (a : Part Side) (start : Here) (ts : List Tree) (now : Here) : 
   pub others : List Tree
   pub is : ts ≡ first ∷ others
   pub given : Gives a start first mid
-  pub repeats : Repeats (seq (quoted k.comma) a) mid (map (pair unit) others) now
+  pub repeats : Repeats (seq (quoted k.Comma) a) mid (map (pair unit) others) now
