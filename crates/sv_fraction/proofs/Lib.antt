@@ -1,4 +1,4 @@
 mod Comparing
 pub mod Integers
-mod Reducing
+pub mod Reducing
 mod Steps

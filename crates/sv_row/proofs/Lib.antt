@@ -1,2 +1,5 @@
+mod Calls
+mod Divisions
 mod Euclid
 mod Least
+pub mod Sums

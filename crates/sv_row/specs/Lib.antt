@@ -1,1 +1,3 @@
 pub mod Multipliers
+pub mod RowParts
+pub mod SumSteps

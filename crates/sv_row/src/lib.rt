@@ -9,6 +9,11 @@ ghost use Rattle.std.specs.Prelude.{◌≡◌, ◌<◌, ◌≤◌, ◌^◌, ◌*
 ghost use Rattle.sv_log.specs.LogRows.{Cancels};
 ghost use Rattle.sv_row.specs.Multipliers.{ExceedMultipliers};
 
+mod division;
+mod sum;
+
+pub use division::{divided, divisor};
+pub use sum::combined;
 use sv_num::gcd;
 
 /// The least positive multipliers of `k` and of `l` with which the two cancel; `None` where one of them is 2^127, which is no `i128`.

@@ -1,0 +1,3 @@
+mod ByHand
+mod Places
+mod Saturation

@@ -1,0 +1,4 @@
+pub mod Eliminations
+pub mod Renumbering
+pub mod Completeness
+pub mod WorkedRows
