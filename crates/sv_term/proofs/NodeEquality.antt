@@ -1,5 +1,5 @@
 -- The tests of equality of nodes tell what they say.
-use Rattle.std.proofs.Common.{ℕ, Bool, true, false, cond, ◌&&◌, nat_eq, get_or, List, [], ◌∷◌, ◌≡◌, map, slice_get, Some, refl, sym, ap, ap₂, ◌∙◌, subst}
+use Rattle.std.proofs.Common.{ℕ, Bool, true, false, cond, nat_eq, get_or, List, [], ◌∷◌, ◌≡◌, map, slice_get, Some, refl, sym, ap, ap₂, ◌∙◌, subst}
 use Rattle.std.specs.Ordering.{on}
 use Rattle.std.specs.Cmp.Lexicographic.{pointwise}
 use Rattle.sv_term.specs.Sorts.{same_bool}

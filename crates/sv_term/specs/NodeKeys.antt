@@ -1,5 +1,5 @@
 -- Serves the proof: the numbers by which nodes are compared and hashed, and that the test of equality is an equivalence which hashing respects.
-use Rattle.std.specs.Prelude.{ℕ, Bool, cond, ◌&&◌, ◌++◌, nat_eq, List, [], ◌∷◌}
+use Rattle.std.specs.Prelude.{ℕ, Bool, cond, ◌++◌, nat_eq, List, [], ◌∷◌}
 use Rattle.std.specs.Ordering.{on, eq_of_both}
 use Rattle.std.specs.Cmp.{IsEquivalence, and_equiv, on_equiv, nat_eq_equiv}
 use Rattle.std.specs.Cmp.Lexicographic.{pointwise, lists_equiv}
