@@ -1,10 +1,11 @@
--- The derived tests of equality of nodes tell what they say.
-use Rattle.std.proofs.Common.{ℕ, Bool, true, false, ◌&&◌, nat_eq, List, [], ◌∷◌, ◌≡◌, map, slice_get, Some, refl, sym, ap, ap₂, ◌∙◌, subst}
+-- The tests of equality of nodes tell what they say.
+use Rattle.std.proofs.Common.{ℕ, Bool, true, false, cond, nat_eq, get_or, List, [], ◌∷◌, ◌≡◌, map, slice_get, Some, refl, sym, ap, ap₂, ◌∙◌, subst}
 use Rattle.std.specs.Ordering.{on}
 use Rattle.std.specs.Cmp.Lexicographic.{pointwise}
 use Rattle.sv_term.specs.Sorts.{same_bool}
 use Rattle.sv_term.specs.Sorts as d
 use Rattle.sv_term.specs.Ids.{id_decides}
+use Rattle.sv_term.specs.NodeKeys.{key_of, tuple_args}
 use Rattle.sv_term.specs.Banks.{StandsIn, NumRow, ArrRow, TupRow, range_of, row_of}
 use Rattle.sv_term.specs.declared.node.SortId.{SortId}
 use Rattle.sv_term.specs.declared.node.TermId.{TermId}
@@ -36,73 +37,89 @@ ids_self : (ks : List TermId) → pointwise (on (λ (k : TermId). k.0) nat_eq) k
 ids_self [] = refl
 ids_self (k ∷ ks) = and_true (nat_eq k.0 k.0) (pointwise (on (λ (k : TermId). k.0) nat_eq) ks ks) (nat_same k.0 k.0 refl) (ids_self ks)
 
-two_ids : {A : Type 0} → (f : TermId → TermId → A) (a b c d : TermId) → (nat_eq a.0 c.0 && nat_eq b.0 d.0) ≡ true → f a b ≡ f c d
-two_ids f a b c d e = let p = both_true (nat_eq a.0 c.0) (nat_eq b.0 d.0) e in ap₂ f (id_is a c p.0) (id_is b d p.1)
+numbers_are : (js ks : List ℕ) → pointwise nat_eq js ks ≡ true → js ≡ ks
+numbers_are [] [] e = refl
+numbers_are [] (k ∷ ks) e = cc
+numbers_are (j ∷ js) [] e = cc
+numbers_are (j ∷ js) (k ∷ ks) e = let p = both_true (nat_eq j k) (pointwise nat_eq js ks) e in ap₂ (λ x xs. x ∷ xs) (same_nat j k p.0) (numbers_are js ks p.1)
 
-three_ids : {A : Type 0} → (f : TermId → TermId → TermId → A) (a b c x y z : TermId) → (nat_eq a.0 x.0 && (nat_eq b.0 y.0 && nat_eq c.0 z.0)) ≡ true → f a b c ≡ f x y z
-three_ids f a b c x y z e =
-    let p = both_true (nat_eq a.0 x.0) (nat_eq b.0 y.0 && nat_eq c.0 z.0) e in
-    let q = both_true (nat_eq b.0 y.0) (nat_eq c.0 z.0) p.1 in
-    λ i. f (id_is a x p.0 i) (id_is b y q.0 i) (id_is c z q.1 i)
+numbers_self : (ks : List ℕ) → pointwise nat_eq ks ks ≡ true
+numbers_self [] = refl
+numbers_self (k ∷ ks) = and_true (nat_eq k k) (pointwise nat_eq ks ks) (nat_same k k refl) (numbers_self ks)
 
-two_self : (a b : TermId) → (nat_eq a.0 a.0 && nat_eq b.0 b.0) ≡ true
-two_self a b = and_true (nat_eq a.0 a.0) (nat_eq b.0 b.0) (nat_same a.0 a.0 refl) (nat_same b.0 b.0 refl)
+-- ---- a node by its key and the arguments of a tuple
 
-three_self : (a b c : TermId) → (nat_eq a.0 a.0 && (nat_eq b.0 b.0 && nat_eq c.0 c.0)) ≡ true
-three_self a b c = and_true (nat_eq a.0 a.0) (nat_eq b.0 b.0 && nat_eq c.0 c.0) (nat_same a.0 a.0 refl) (two_self b c)
+abbrev number : ℕ → List ℕ → ℕ
+number k ks = get_or ks k 0
+
+abbrev sort : ℕ → List ℕ → SortId
+sort k ks = record { 0 = number k ks }
+
+abbrev term : ℕ → List ℕ → TermId
+term k ks = record { 0 = number k ks }
+
+abbrev made : List ℕ → List TermId → Node
+made ks ts =
+    cond (nat_eq (number 0 ks) 0) (n.Lit (nat_eq (number 1 ks) 1) (number 2 ks))
+    (cond (nat_eq (number 0 ks) 1) (n.Truth (nat_eq (number 1 ks) 1))
+    (cond (nat_eq (number 0 ks) 2) (n.Var (number 1 ks) (sort 2 ks))
+    (cond (nat_eq (number 0 ks) 3) (n.Add (term 1 ks) (term 2 ks))
+    (cond (nat_eq (number 0 ks) 4) (n.Sub (term 1 ks) (term 2 ks))
+    (cond (nat_eq (number 0 ks) 5) (n.Mul (term 1 ks) (term 2 ks))
+    (cond (nat_eq (number 0 ks) 6) (n.Div (term 1 ks) (term 2 ks))
+    (cond (nat_eq (number 0 ks) 7) (n.Mod (term 1 ks) (term 2 ks))
+    (cond (nat_eq (number 0 ks) 8) (n.Wrap (nat_eq (number 1 ks) 1) (number 2 ks) (term 3 ks))
+    (cond (nat_eq (number 0 ks) 9) (n.Le (term 1 ks) (term 2 ks))
+    (cond (nat_eq (number 0 ks) 10) (n.Eq (term 1 ks) (term 2 ks))
+    (cond (nat_eq (number 0 ks) 11) (n.Not (term 1 ks))
+    (cond (nat_eq (number 0 ks) 12) (n.And (term 1 ks) (term 2 ks))
+    (cond (nat_eq (number 0 ks) 13) (n.Or (term 1 ks) (term 2 ks))
+    (cond (nat_eq (number 0 ks) 14) (n.Ite (term 1 ks) (term 2 ks) (term 3 ks))
+    (cond (nat_eq (number 0 ks) 15) (n.Sel (term 1 ks) (term 2 ks))
+    (cond (nat_eq (number 0 ks) 16) (n.Sto (term 1 ks) (term 2 ks) (term 3 ks))
+    (cond (nat_eq (number 0 ks) 17) (n.Const (sort 1 ks) (term 2 ks))
+    (cond (nat_eq (number 0 ks) 18) (n.Mix (term 1 ks) (term 2 ks) (term 3 ks))
+    (cond (nat_eq (number 0 ks) 19) (n.Tup (sort 1 ks) ts)
+    (cond (nat_eq (number 0 ks) 20) (n.Get (number 1 ks) (term 2 ks))
+    (n.Sum (term 1 ks))))))))))))))))))))))
+
+made_is : (x : Node) → made (key_of x) (tuple_args x) ≡ x
+made_is (n.Lit true m) = refl
+made_is (n.Lit false m) = refl
+made_is (n.Truth true) = refl
+made_is (n.Truth false) = refl
+made_is (n.Var x k) = refl
+made_is (n.Add a b) = refl
+made_is (n.Sub a b) = refl
+made_is (n.Mul a b) = refl
+made_is (n.Div a b) = refl
+made_is (n.Mod a b) = refl
+made_is (n.Wrap true bits a) = refl
+made_is (n.Wrap false bits a) = refl
+made_is (n.Le a b) = refl
+made_is (n.Eq a b) = refl
+made_is (n.Not p) = refl
+made_is (n.And p q) = refl
+made_is (n.Or p q) = refl
+made_is (n.Ite c a b) = refl
+made_is (n.Sel a i) = refl
+made_is (n.Sto a i v) = refl
+made_is (n.Const k v) = refl
+made_is (n.Mix k a b) = refl
+made_is (n.Tup k ks) = refl
+made_is (n.Get k a) = refl
+made_is (n.Sum a) = refl
 
 -- two nodes that the test finds equal are one
 pub node_is : (x y : Node) → (eq-value).it x y ≡ true → x ≡ y
-node_is (n.Lit a j) (n.Lit b k) e = let p = both_true (same_bool a b) (nat_eq j k) e in ap₂ n.Lit (same_bool_is a b p.0) (same_nat j k p.1)
-node_is (n.Truth a) (n.Truth b) e = ap n.Truth (same_bool_is a b e)
-node_is (n.Var i j) (n.Var k l) e = let p = both_true (nat_eq i k) (nat_eq j.0 l.0) e in ap₂ n.Var (same_nat i k p.0) (sort_id_is j l p.1)
-node_is (n.Add a b) (n.Add c d) e = two_ids n.Add a b c d e
-node_is (n.Sub a b) (n.Sub c d) e = two_ids n.Sub a b c d e
-node_is (n.Mul a b) (n.Mul c d) e = two_ids n.Mul a b c d e
-node_is (n.Div a b) (n.Div c d) e = two_ids n.Div a b c d e
-node_is (n.Mod a b) (n.Mod c d) e = two_ids n.Mod a b c d e
-node_is (n.Le a b) (n.Le c d) e = two_ids n.Le a b c d e
-node_is (n.Eq a b) (n.Eq c d) e = two_ids n.Eq a b c d e
-node_is (n.And a b) (n.And c d) e = two_ids n.And a b c d e
-node_is (n.Or a b) (n.Or c d) e = two_ids n.Or a b c d e
-node_is (n.Sel a b) (n.Sel c d) e = two_ids n.Sel a b c d e
-node_is (n.Wrap a i x) (n.Wrap b j y) e =
-    let p = both_true (same_bool a b) (nat_eq i j && nat_eq x.0 y.0) e in
-    let q = both_true (nat_eq i j) (nat_eq x.0 y.0) p.1 in
-    λ k. n.Wrap (same_bool_is a b p.0 k) (same_nat i j q.0 k) (id_is x y q.1 k)
-node_is (n.Not a) (n.Not b) e = ap n.Not (id_is a b e)
-node_is (n.Ite a b c) (n.Ite x y z) e = three_ids n.Ite a b c x y z e
-node_is (n.Sto a b c) (n.Sto x y z) e = three_ids n.Sto a b c x y z e
-node_is (n.Const i a) (n.Const j b) e = let p = both_true (nat_eq i.0 j.0) (nat_eq a.0 b.0) e in ap₂ n.Const (sort_id_is i j p.0) (id_is a b p.1)
-node_is (n.Mix a b c) (n.Mix x y z) e = three_ids n.Mix a b c x y z e
-node_is (n.Tup i js) (n.Tup j ks) e = let p = both_true (nat_eq i.0 j.0) (pointwise (on (λ (k : TermId). k.0) nat_eq) js ks) e in ap₂ n.Tup (sort_id_is i j p.0) (ids_are js ks p.1)
-node_is (n.Get i a) (n.Get j b) e = let p = both_true (nat_eq i j) (nat_eq a.0 b.0) e in ap₂ n.Get (same_nat i j p.0) (id_is a b p.1)
-node_is (n.Sum a) (n.Sum b) e = ap n.Sum (id_is a b e)
-node_is _ _ e = cc e
+node_is x y e =
+    let p = both_true (pointwise nat_eq (key_of x) (key_of y)) (pointwise (on (λ (k : TermId). k.0) nat_eq) (tuple_args x) (tuple_args y)) e in
+    let keys : key_of x ≡ key_of y = numbers_are (key_of x) (key_of y) p.0 in
+    let args : tuple_args x ≡ tuple_args y = ids_are (tuple_args x) (tuple_args y) p.1 in
+    sym (made_is x) ∙ (ap₂ made keys args ∙ made_is y)
 
 pub node_self : (x : Node) → (eq-value).it x x ≡ true
-node_self (n.Lit a j) = and_true (same_bool a a) (nat_eq j j) (bool_self a) (nat_same j j refl)
-node_self (n.Truth a) = bool_self a
-node_self (n.Var i j) = and_true (nat_eq i i) (nat_eq j.0 j.0) (nat_same i i refl) (nat_same j.0 j.0 refl)
-node_self (n.Add a b) = two_self a b
-node_self (n.Sub a b) = two_self a b
-node_self (n.Mul a b) = two_self a b
-node_self (n.Div a b) = two_self a b
-node_self (n.Mod a b) = two_self a b
-node_self (n.Le a b) = two_self a b
-node_self (n.Eq a b) = two_self a b
-node_self (n.And a b) = two_self a b
-node_self (n.Or a b) = two_self a b
-node_self (n.Sel a b) = two_self a b
-node_self (n.Wrap a i x) = and_true (same_bool a a) (nat_eq i i && nat_eq x.0 x.0) (bool_self a) (and_true (nat_eq i i) (nat_eq x.0 x.0) (nat_same i i refl) (nat_same x.0 x.0 refl))
-node_self (n.Not a) = nat_same a.0 a.0 refl
-node_self (n.Ite a b c) = three_self a b c
-node_self (n.Sto a b c) = three_self a b c
-node_self (n.Const i a) = and_true (nat_eq i.0 i.0) (nat_eq a.0 a.0) (nat_same i.0 i.0 refl) (nat_same a.0 a.0 refl)
-node_self (n.Mix a b c) = three_self a b c
-node_self (n.Tup i ks) = and_true (nat_eq i.0 i.0) (pointwise (on (λ (k : TermId). k.0) nat_eq) ks ks) (nat_same i.0 i.0 refl) (ids_self ks)
-node_self (n.Get i a) = and_true (nat_eq i i) (nat_eq a.0 a.0) (nat_same i i refl) (nat_same a.0 a.0 refl)
-node_self (n.Sum a) = nat_same a.0 a.0 refl
+node_self x = and_true (pointwise nat_eq (key_of x) (key_of x)) (pointwise (on (λ (k : TermId). k.0) nat_eq) (tuple_args x) (tuple_args x)) (numbers_self (key_of x)) (ids_self (tuple_args x))
 
 -- ---- sorts
 

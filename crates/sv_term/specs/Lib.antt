@@ -11,4 +11,5 @@ pub mod Banks
 pub mod NodeKinds
 pub mod BankSteps
 pub mod Ids
+pub mod NodeKeys
 pub mod Book

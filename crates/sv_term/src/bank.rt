@@ -124,7 +124,9 @@ impl Bank {
         ensures { AddsNode self.old node result self.new }
     {
         let number = self.nodes.len();
-        self.nodes.insert(node, sort)?;
+        let Ok(_) = self.nodes.insert(node, sort) else {
+            return Err(NoMemory);
+        };
         Ok(TermId(number))
     }
 
@@ -164,13 +166,14 @@ impl Bank {
     }
 
     /// What holds of every bank: each term fits, a node may be added exactly where its sorts and arguments are there and its tree fits,
-    /// and no two sorts and no two nodes are equal. It does nothing.
+    /// no two sorts and no two nodes are equal, and no two numbers stand for one sort or one term. It does nothing.
     pub fn is_sound(&self)
         ensures terms { (k : TermId) → IsTerm self.now k → fits (term self.now k) ≡ true }
         ensures nodes { (x : Node) → Fits self.now x ↔ (IsNamed self.now x × (fits (tree self.now x) ≡ true)) }
         ensures sorts_differ { AllDiffer self.now.sorts }
         ensures nodes_differ { AllDiffer self.now.nodes }
-        ensures one_number { (j k : SortId) → IsSort self.now j → IsSort self.now k → sort self.now j ≡ sort self.now k → j ≡ k }
+        ensures sort_number { (j k : SortId) → IsSort self.now j → IsSort self.now k → sort self.now j ≡ sort self.now k → j ≡ k }
+        ensures term_number { (j k : TermId) → IsTerm self.now j → IsTerm self.now k → term self.now j ≡ term self.now k → j ≡ k }
     {
         let _ = &self.nodes;
     }

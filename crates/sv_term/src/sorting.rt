@@ -16,30 +16,27 @@ impl Bank {
         ensures { GivesSort self.old (sort_of (tree self.old node.now)) result self.new }
     {
         match node {
-            Node::Lit(_, _) => Ok(self.number_sort()?),
-            Node::Truth(_) => Ok(self.truth_sort()?),
-            Node::Var(_, sort) => Ok(*sort),
-            Node::Add(_, _) => Ok(self.number_sort()?),
-            Node::Sub(_, _) => Ok(self.number_sort()?),
-            Node::Mul(_, _) => Ok(self.number_sort()?),
-            Node::Div(_, _) => Ok(self.number_sort()?),
-            Node::Mod(_, _) => Ok(self.number_sort()?),
+            Node::Lit(_, _)
+            | Node::Add(_, _)
+            | Node::Sub(_, _)
+            | Node::Mul(_, _)
+            | Node::Div(_, _)
+            | Node::Mod(_, _)
+            | Node::Sum(_) => Ok(self.number_sort()?),
+            Node::Truth(_)
+            | Node::Le(_, _)
+            | Node::Eq(_, _)
+            | Node::Not(_)
+            | Node::And(_, _)
+            | Node::Or(_, _) => Ok(self.truth_sort()?),
             Node::Wrap(signed, bits, _) => Ok(self.sort(SortNode::Num(Range::Bits(
                 *signed, *bits,
             )))?),
-            Node::Le(_, _) => Ok(self.truth_sort()?),
-            Node::Eq(_, _) => Ok(self.truth_sort()?),
-            Node::Not(_) => Ok(self.truth_sort()?),
-            Node::And(_, _) => Ok(self.truth_sort()?),
-            Node::Or(_, _) => Ok(self.truth_sort()?),
+            Node::Var(_, sort) | Node::Const(sort, _) | Node::Tup(sort, _) => Ok(*sort),
             Node::Ite(_, a, b) => Ok(self.joined_sort(*a, *b)?),
             Node::Sel(a, _) => Ok(self.element_of(*a)),
-            Node::Sto(a, _, _) => Ok(self.sort_of(*a)),
-            Node::Const(sort, _) => Ok(*sort),
-            Node::Mix(_, a, _) => Ok(self.sort_of(*a)),
-            Node::Tup(sort, _) => Ok(*sort),
+            Node::Sto(a, _, _) | Node::Mix(_, a, _) => Ok(self.sort_of(*a)),
             Node::Get(k, a) => Ok(self.part_of(*k, *a)),
-            Node::Sum(_) => Ok(self.number_sort()?),
         }
     }
 

@@ -1,34 +1,20 @@
-//! A program that adds as many nodes to a bank as it is told, each a second time, and cases that cross the calls of `sv_term`.
+//! A program that takes steps on a bank, a line each, and writes what comes of each.
 //!
-//! Promises: it writes for each number how many nodes the bank then has. The benchmark `bench/terms` counts its instructions.
+//! Promises: that it is safe and ends. Which nodes fit and which numbers they get was worked out by hand, in `stdin` and `stdout`.
 //! Stands on: `sv_term`, `sv_text`.
+//! Read first: the README's table of steps, then `src/step.rt`.
 #![tactic(auto)]
 
-use std::alloc::Global;
-use std::io;
-use sv_term::{Bank, Node};
-use sv_text::NoMemory;
+mod naming;
+mod sorts;
+mod step;
 
-#[cfg(test)]
-mod tests;
-
-fn main(rt: HostRuntime) -> io::Result<()> {
+fn main(rt: HostRuntime) -> anyhow::Result<()> {
+    let mut bank = sorts::with_sorts(rt.alloc())?;
     for line in rt.lines(rt.alloc()) {
         let line = line?;
-        let count = line.as_str().parse::<u32>().unwrap_or(0);
-        match grown(rt.alloc(), count) {
-            Ok(length) => println!(rt; "{length}")?,
-            Err(_) => println!(rt; "out of memory")?,
-        }
+        let answer = step::taken(rt.alloc(), &mut bank, line.as_str())?;
+        println!(rt; "{line}: {answer}")?;
     }
     Ok(())
-}
-
-/// How many nodes a bank has, once so many were added and half of them were there.
-fn grown(alloc: Global, count: u32) -> Result<usize, NoMemory> {
-    let mut bank = Bank::new(alloc);
-    for i in 0..count {
-        bank.add(Node::Lit(false, (i / 2) as u128))?;
-    }
-    Ok(bank.len())
 }

@@ -51,20 +51,18 @@ impl Bank {
         ensures { IsTrue result ↔ Fits self.now node.now }
     {
         match node {
-            Node::Lit(_, _) => true,
-            Node::Truth(_) => true,
+            Node::Lit(_, _) | Node::Truth(_) => true,
             Node::Var(_, sort) => self.has_sort(*sort),
-            Node::Add(a, b) => self.are_numbers(*a, *b),
-            Node::Sub(a, b) => self.are_numbers(*a, *b),
-            Node::Mul(a, b) => self.are_numbers(*a, *b),
-            Node::Div(a, b) => self.are_numbers(*a, *b),
-            Node::Mod(a, b) => self.are_numbers(*a, *b),
+            Node::Add(a, b)
+            | Node::Sub(a, b)
+            | Node::Mul(a, b)
+            | Node::Div(a, b)
+            | Node::Mod(a, b)
+            | Node::Le(a, b) => self.are_numbers(*a, *b),
             Node::Wrap(_, bits, a) => self.wraps(*bits, *a),
-            Node::Le(a, b) => self.are_numbers(*a, *b),
             Node::Eq(a, b) => self.are_kin(*a, *b),
             Node::Not(p) => self.is_truth(*p),
-            Node::And(p, q) => self.are_truths(*p, *q),
-            Node::Or(p, q) => self.are_truths(*p, *q),
+            Node::And(p, q) | Node::Or(p, q) => self.are_truths(*p, *q),
             Node::Ite(c, a, b) => self.chooses(*c, *a, *b),
             Node::Sel(a, i) => self.selects(*a, *i),
             Node::Sto(a, i, v) => self.stores(*a, *i, *v),

@@ -1,7 +1,7 @@
 use Rattle.std.proofs.Common.{subst}
 use Rattle.sv_term.specs.Banks.{IsSound}
 use Rattle.sv_term.proofs.BankFits.{terms_fit, fits_is}
-use Rattle.sv_term.proofs.Distinct.{sorts_apart}
+use Rattle.sv_term.proofs.Distinct.{sorts_apart, terms_apart}
 use Rattle.sv_term.proofs.bank.Bank.is_sound.Goals as goal
 
 pub returns : goal.returns
@@ -12,5 +12,6 @@ returns c =
       nodes = fits_is c.args.self.now sound;
       sorts_differ = sound.sorts_differ;
       nodes_differ = sound.nodes_differ;
-      one_number = sorts_apart c.args.self.now sound;
+      sort_number = sorts_apart c.args.self.now sound;
+      term_number = terms_apart c.args.self.now sound;
     }

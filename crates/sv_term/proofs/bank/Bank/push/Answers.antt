@@ -12,25 +12,25 @@ use Rattle.sv_term.proofs.Keyed.{entry_last, map_push, length_map}
 use Rattle.sv_term.proofs.NodeEquality.{absent_keys}
 use Rattle.sv_term.proofs.bank.Bank.push.Goals as goal
 
-absent : (c : goal.In_ok-insert) → StandsIn (keys c.self.inside.nodes) c.args.node → ⊥
+absent : (c : goal.In-Ok) → StandsIn (keys c.self.inside.nodes) c.args.node → ⊥
 absent c = subst (λ b. StandsIn b.nodes c.args.node → ⊥) (sym c.self.view_is) c.requires.absent
 
-fits : (c : goal.In_ok-insert) → Fits (record { sorts = map row_of c.self.inside.sorts.keys; nodes = keys c.self.inside.nodes }) c.args.node
+fits : (c : goal.In-Ok) → Fits (record { sorts = map row_of c.self.inside.sorts.keys; nodes = keys c.self.inside.nodes }) c.args.node
 fits c = subst (λ b. Fits b c.args.node) (sym c.self.view_is) c.requires.fits
 
-entries : (c : goal.In_ok-insert) → c.insert.new.self.entries ≡ c.self.inside.nodes.entries ++ (c.args.node, c.args.sort) ∷ []
-entries c = c.in_ok-insert.ensures.entries ∙ entry_last (eq-value).it c.self.inside.nodes.entries c.args.node c.args.sort (absent_keys (keys c.self.inside.nodes) c.args.node (absent c))
+entries : (c : goal.In-Ok) → c.insert.new.self.entries ≡ c.self.inside.nodes.entries ++ (c.args.node, c.args.sort) ∷ []
+entries c = c.in-Ok.ensures.entries ∙ entry_last (eq-value).it c.self.inside.nodes.entries c.args.node c.args.sort (absent_keys (keys c.self.inside.nodes) c.args.node (absent c))
 
-nodes : (c : goal.In_ok-insert) → keys c.insert.new.self ≡ keys c.self.inside.nodes ++ c.args.node ∷ []
+nodes : (c : goal.In-Ok) → keys c.insert.new.self ≡ keys c.self.inside.nodes ++ c.args.node ∷ []
 nodes c = ap (map (λ (e : Node × SortId). e.0)) (entries c) ∙ map_push (λ (e : Node × SortId). e.0) c.self.inside.nodes.entries (c.args.node, c.args.sort)
 
-last : (c : goal.In_ok-insert) → c.len-number.result ≡ length (keys c.self.inside.nodes)
+last : (c : goal.In-Ok) → c.len-number.result ≡ length (keys c.self.inside.nodes)
 last c = c.len-number.ensures.len ∙ sym (length_map (λ e. e.0) c.self.inside.nodes.entries)
 
 pub invariant_of-self : goal.invariant_of-self
 invariant_of-self c =
     subst (λ es. IsSound (record { sorts = map row_of c.self.inside.sorts.keys; nodes = keys_of es }) × KindsAre (record { sorts = map row_of c.self.inside.sorts.keys; nodes = keys_of es }) es)
-    (sym c.in_err-insert.ensures.err) c.self.invariant
+    (sym c.in_default.ensures.err) c.self.invariant
 
 pub invariant_of-self-2 : goal.invariant_of-self-2
 invariant_of-self-2 c = (
