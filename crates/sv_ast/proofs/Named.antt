@@ -3,10 +3,10 @@ use Rattle.std.proofs.Common.{◌≡◌, ◌≢◌, ℕ, ◌<◌, ◌≤◌, Lis
 use Rattle.std.specs.Prelude.{slice_get, AllPairs}
 use Rattle.std.proofs.lemmas.Option.{slice_get_within, get_or_from_slice_get}
 use Rattle.std.proofs.Math.Nat.{eq-or-lt_of_le}
-use Rattle.sv_grammar.specs.Grammar.{Part, Token, Tree, name, left, right, some, node}
+use Rattle.sv_grammar.specs.Grammar.{Part, Tree, name, left, right, some, node}
 use Rattle.sv_grammar.specs.Named.{Spells, unit_spells, none_spells, nil_spells, name_spells, pair_spells, cons_spells, left_spells, right_spells, some_spells, node_spells}
 use Rattle.sv_ast.specs.Syntax.{Side}
-use Rattle.sv_ast.specs.GrammarLaws.{IsOne, IsNamed, IsOneNamed}
+use Rattle.sv_ast.specs.GrammarLaws.{IsOne, IsOneNamed}
 
 abbrev AreDistinct : List (List ℕ) → Type 0
 AreDistinct names = AllPairs (λ x y. x ≢ y) names
