@@ -1,0 +1,4 @@
+pub mod FormedProofs
+pub mod LabelLemmas
+pub mod LabelOrders
+pub mod Walked

@@ -1,4 +1,4 @@
--- Believed: the texts of labels and of functions, and the order of labels. Hold it against the table of checks in `docs/report.md`.
+-- Believed: the texts of labels and of functions, and the order of labels. Hold it against the tables of `docs/labels.md`.
 use Rattle.std.specs.Prelude.{◌≡◌, ◌<◌, ◌==◌, ◌++◌, if◌then◌else◌, ℕ, Bool, List, [], Option, Some, None, codes, length, slice_get}
 use Rattle.std.specs.Fmt.{decimal}
 use Rattle.std.specs.Ordering.{nat_cmp, ordering_then}
@@ -21,17 +21,21 @@ text_of names n = text (slice_get names n)
     text (Some bytes) = bytes
     text None = []
 
+-- the number of an annotation between two texts, and a name behind them
+abbrev pub numbered_text : List ℕ → ℕ → List ℕ → List ℕ → List ℕ
+numbered_text front number back name = front ++ decimal number ++ back ++ name
+
 -- what is checked: the table of checks, row by row, for the number of an annotation and the name of a function
 abbrev pub check_text : ℕ → ℕ → List ℕ → List ℕ
 check_text kind number name =
-    if kind == 1 then codes "precondition " ++ decimal number ++ codes " of " ++ name
-    else (if kind == 2 then codes "invariant " ++ decimal number ++ codes " before function " ++ name
-    else (if kind == 3 then codes "invariant " ++ decimal number ++ codes " before call"
+    if kind == 1 then numbered_text (codes "precondition ") number (codes " of ") name
+    else (if kind == 2 then numbered_text (codes "invariant ") number (codes " before function ") name
+    else (if kind == 3 then numbered_text (codes "invariant ") number (codes " before call") []
     else (if kind == 4 then codes "assert"
-    else (if kind == 5 then codes "loop invariant " ++ decimal number ++ codes " on entry"
-    else (if kind == 6 then codes "loop invariant " ++ decimal number ++ codes " after turn"
-    else (if kind == 7 then codes "invariant " ++ decimal number
-    else codes "postcondition " ++ decimal number))))))
+    else (if kind == 5 then numbered_text (codes "loop invariant ") number (codes " on entry") []
+    else (if kind == 6 then numbered_text (codes "loop invariant ") number (codes " after turn") []
+    else (if kind == 7 then numbered_text (codes "invariant ") number [] []
+    else numbered_text (codes "postcondition ") number [] []))))))
 
 -- where it is checked
 abbrev pub site_text : Site → List ℕ
@@ -41,13 +45,13 @@ site_text End = codes " at end"
 abbrev pub text_of_label : List (List ℕ) → Label → List ℕ
 text_of_label names l = check_text l.kind l.number (text_of names l.of) ++ site_text l.site
 
+abbrev pub owner_text : List (List ℕ) → Option ℕ → List ℕ
+owner_text names (Some owner) = text_of names owner ++ codes "."
+owner_text names None = []
+
 -- the name of a function of which another of its name is more derived begins with its contract
 abbrev pub defined_by : List (List ℕ) → Contract → plain.Function → List ℕ
-defined_by names c f = if f.top then [] else text_of names (owner (slice_get c.owners f.owner)) ++ codes "."
-  where
-    owner : Option ℕ → ℕ
-    owner (Some name) = name
-    owner None = 0
+defined_by names c f = if f.top then [] else owner_text names (slice_get c.owners f.owner)
 
 abbrev pub text_of_function : List (List ℕ) → Contract → Option plain.Function → List ℕ
 text_of_function names c (Some f) = defined_by names c f ++ text_of names f.name
@@ -59,12 +63,15 @@ text_of_func names c Constructor = text_of names c.name ++ codes ".constructor"
 text_of_func names c (Function k) = text_of names c.name ++ codes "." ++ text_of_function names c (slice_get c.funcs k)
 text_of_func names c Gift = text_of names c.name ++ codes ".(gift)"
 
--- the names that a function's line is written with are in the list, and the function is there
+-- the names that a function's line is written with are in the list
+abbrev pub HasOwnerName : List (List ℕ) → Contract → plain.Function → Type 0
+HasOwnerName names c f = (owner : ℕ) → slice_get c.owners f.owner ≡ Some owner → owner < length names
+
+abbrev pub HasFunctionNames : List (List ℕ) → Contract → ℕ → Type 0
+HasFunctionNames names c k = (f : plain.Function) → slice_get c.funcs k ≡ Some f → (f.name < length names) × HasOwnerName names c f
+
 abbrev pub HasNames : List (List ℕ) → Contract → FuncId → Type 0
-HasNames names c (Function k) =
-    (c.name < length names)
-    × ((f : plain.Function) × (slice_get c.funcs k ≡ Some f) × (f.name < length names)
-    × ((name : ℕ) × (slice_get c.owners f.owner ≡ Some name) × (name < length names)))
+HasNames names c (Function k) = (c.name < length names) × HasFunctionNames names c k
 HasNames names c _ = c.name < length names
 
 -- labels stand in the order of their places, those at the end last

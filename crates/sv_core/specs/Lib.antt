@@ -2,7 +2,9 @@ pub mod PlainCode
 pub mod PlainCore
 pub mod LabelTexts
 pub mod Checks
+pub mod CheckWalk
 pub mod FormedTypes
 pub mod FormedExprs
 pub mod FormedStats
 pub mod Formed
+pub mod FormedExamples

@@ -1,0 +1,11 @@
+use Rattle.std.proofs.Common.{arith, map}
+use Rattle.sv_core.specs.CheckWalk.{after_all}
+use Rattle.sv_core.specs.PlainCode.{exprs, plain_expr}
+use Rattle.sv_core.proofs.Walked.{done_at, all_next}
+use Rattle.sv_core.proofs.expr_checks.+expr_checks.Goals as goal
+
+pub push_exprs-loop-e-preserved : goal.push_exprs-loop-e-preserved
+push_exprs-loop-e-preserved t c = all_next c.args.tally.now c.args.found.now.items c.as_slice-e-items.result.now c.loop-e.e-index c.e-item.result c.loop-e.found.items _ (omega arith) c.e-item.is c.loop-e.invariant c.in_ok-push_expr.ensures
+
+pub push_exprs-returns : goal.push_exprs-returns
+push_exprs-returns t c = done_at (λ xs. after_all c.args.tally.now (exprs (map plain_expr xs)) c.args.found.now.items) c.args.es.now c.as_slice-e-items.result.now c.loop-e.e-index c.loop-e.found.items c.as_slice-e-items.ensures (omega arith) c.loop-e.invariant

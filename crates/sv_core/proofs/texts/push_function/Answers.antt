@@ -1,0 +1,14 @@
+use Rattle.sv_core.specs.PlainCore.{plain_core, plain_func}
+use Rattle.sv_core.proofs.LabelLemmas.{mapped, named_behind}
+use Rattle.sv_core.proofs.texts.push_function.Goals as goal
+
+pub push_definer-requires : goal.push_definer-requires
+push_definer-requires c = (c.requires (plain_func c.in-Some.f.now) (mapped plain_func c.args.core.now.funcs c.args.k c.in-Some.f.now c.in-Some.ensures.value)).1
+
+pub text-requires : goal.text-requires
+text-requires c = (c.requires (plain_func c.in-Some.f.now) (mapped plain_func c.args.core.now.funcs c.args.k c.in-Some.f.now c.in-Some.ensures.value)).0
+
+pub returns : goal.returns
+returns c =
+    rw (mapped plain_func c.args.core.now.funcs c.args.k c.in-Some.f.now c.in-Some.ensures.value)
+    (named_behind c.args.names.now (plain_core c.args.core.now) (plain_func c.in-Some.f.now) _ _ _ _ c.in_ok-push_definer.ensures c.in_ok-extend_from_slice.ensures.items c.text.ensures.text)
