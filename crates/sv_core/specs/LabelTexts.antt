@@ -22,20 +22,20 @@ text_of names n = text (slice_get names n)
     text None = []
 
 -- the number of an annotation between two texts, and a name behind them
-abbrev pub numbered_text : List ℕ → ℕ → List ℕ → List ℕ → List ℕ
-numbered_text front number back name = front ++ decimal number ++ back ++ name
+abbrev pub row_text : List ℕ → ℕ → List ℕ → List ℕ → List ℕ
+row_text front number back name = front ++ decimal number ++ back ++ name
 
 -- what is checked: the table of checks, row by row, for the number of an annotation and the name of a function
 abbrev pub check_text : ℕ → ℕ → List ℕ → List ℕ
 check_text kind number name =
-    if kind == 1 then numbered_text (codes "precondition ") number (codes " of ") name
-    else (if kind == 2 then numbered_text (codes "invariant ") number (codes " before function ") name
-    else (if kind == 3 then numbered_text (codes "invariant ") number (codes " before call") []
+    if kind == 1 then row_text (codes "precondition ") number (codes " of ") name
+    else (if kind == 2 then row_text (codes "invariant ") number (codes " before function ") name
+    else (if kind == 3 then row_text (codes "invariant ") number (codes " before call") []
     else (if kind == 4 then codes "assert"
-    else (if kind == 5 then numbered_text (codes "loop invariant ") number (codes " on entry") []
-    else (if kind == 6 then numbered_text (codes "loop invariant ") number (codes " after turn") []
-    else (if kind == 7 then numbered_text (codes "invariant ") number [] []
-    else numbered_text (codes "postcondition ") number [] []))))))
+    else (if kind == 5 then row_text (codes "loop invariant ") number (codes " on entry") []
+    else (if kind == 6 then row_text (codes "loop invariant ") number (codes " after turn") []
+    else (if kind == 7 then row_text (codes "invariant ") number [] []
+    else row_text (codes "postcondition ") number [] []))))))
 
 -- where it is checked
 abbrev pub site_text : Site → List ℕ

@@ -3,6 +3,7 @@ pub mod PlainCore
 pub mod LabelTexts
 pub mod Checks
 pub mod CheckWalk
+pub mod CodeWalk
 pub mod FormedTypes
 pub mod FormedExprs
 pub mod FormedStats

@@ -1,8 +1,9 @@
 #![tactic(auto, using(crate::proofs::Walked::walks))]
 
-ghost use Rattle.std.specs.Prelude.{◌≡◌, OnOk, map, option_map};
-ghost use Rattle.sv_core.specs.CheckWalk.{after_expr, after_kind, after_all, after_maybe};
-ghost use Rattle.sv_core.specs.PlainCode.{plain_expr, plain_kind, plain_exprs, exprs, maybe};
+ghost use Rattle.std.specs.Prelude.{◌≡◌, OnOk, map};
+ghost use Rattle.sv_core.specs.CheckWalk.{after_expr, after_all};
+ghost use Rattle.sv_core.specs.CodeWalk.{with_kind, with_maybe};
+ghost use Rattle.sv_core.specs.PlainCode.{plain_expr, exprs};
 
 use crate::expr::{CExpr, CKind};
 use crate::label::{Label, Site};
@@ -35,7 +36,7 @@ fn push_maybe(
     e: &Option<Boxed<CExpr>>,
     found: &mut Vec<Label>,
 ) -> Result<(), NoMemory>
-    ensures { OnOk result (found.new.items ≡ after_maybe tally.now (maybe (option_map plain_expr e.now)) found.old.items) }
+    ensures { OnOk result (found.new.items ≡ with_maybe tally.now e.now found.old.items) }
 {
     match e {
         None => Ok(()),
@@ -50,7 +51,7 @@ fn push_kind(
     kind: &CKind,
     found: &mut Vec<Label>,
 ) -> Result<(), NoMemory>
-    ensures { OnOk result (found.new.items ≡ after_kind tally.now place (plain_kind kind.now) found.old.items) }
+    ensures { OnOk result (found.new.items ≡ with_kind tally.now place kind.now found.old.items) }
 {
     match kind {
         CKind::Num(_, _) => Ok(()),

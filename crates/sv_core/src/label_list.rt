@@ -1,9 +1,9 @@
 #![tactic(auto, using(crate::proofs::Walked::walks))]
 
-ghost use Rattle.std.specs.Prelude.{◌≡◌, ◌++◌, IfOk, OnOk, map, slice_get};
-ghost use Rattle.sv_core.specs.CheckWalk.{after_modifier, after_uses, after_given, after_ctors, after_text, after_function, after_checks};
-ghost use Rattle.sv_core.specs.Checks.{AreLabels, checks_of, invariants_at_end, ends_checks};
-ghost use Rattle.sv_core.specs.PlainCore.{plain_core, plain_mod, plain_func, plain_use, plain_given, plain_ctor};
+ghost use Rattle.std.specs.Prelude.{◌≡◌, ◌++◌, IfOk, OnOk};
+ghost use Rattle.sv_core.specs.CodeWalk.{with_mod, with_use, with_ends, with_text, with_function, with_given, with_ctors, with_checks};
+ghost use Rattle.sv_core.specs.Checks.{AreLabels, checks_of, invariants_at_end};
+ghost use Rattle.sv_core.specs.PlainCore.{plain_core};
 
 use crate::contract::{BaseArgs, Core, CtorInfo, FuncInfo, ModInfo, ModUse};
 use crate::expr_checks::push_exprs;
@@ -40,7 +40,7 @@ fn push_checks(
     f: FuncId,
     found: &mut Vec<Label>,
 ) -> Result<(), NoMemory>
-    ensures { OnOk result (found.new.items ≡ after_checks tally.now (plain_core core.now) f found.old.items) }
+    ensures { OnOk result (found.new.items ≡ with_checks tally.now core.now f found.old.items) }
 {
     match f {
         FuncId::Constructor => {
@@ -67,7 +67,7 @@ fn push_modifier(
     which: u32,
     found: &mut Vec<Label>,
 ) -> Result<(), NoMemory>
-    ensures { OnOk result (found.new.items ≡ after_modifier tally.now (slice_get (map plain_mod mods.now) which) found.old.items) }
+    ensures { OnOk result (found.new.items ≡ with_mod tally.now mods.now which found.old.items) }
 {
     let Some(modifier) = mods.get(which as usize) else {
         return Ok(());
@@ -81,7 +81,7 @@ fn push_uses(
     uses: &Items<ModUse>,
     found: &mut Vec<Label>,
 ) -> Result<(), NoMemory>
-    ensures { OnOk result (found.new.items ≡ after_uses tally.now (map plain_mod mods.now) (map plain_use uses.now) found.old.items) }
+    ensures { OnOk result (found.new.items ≡ with_use tally.now mods.now uses.now found.old.items) }
 {
     for u in uses.as_slice() {
         push_exprs(tally, &u.args, found)?;
@@ -91,7 +91,7 @@ fn push_uses(
 }
 
 fn push_ends(tally: &Tally, f: &FuncInfo, found: &mut Vec<Label>) -> Result<(), NoMemory>
-    ensures { OnOk result (found.new.items ≡ found.old.items ++ ends_checks tally.now (plain_func f.now)) }
+    ensures { OnOk result (found.new.items ≡ with_ends tally.now f.now found.old.items) }
 {
     let post = count(f.post.len())?;
     if f.public {
@@ -107,7 +107,7 @@ fn push_text(
     f: &FuncInfo,
     found: &mut Vec<Label>,
 ) -> Result<(), NoMemory>
-    ensures { OnOk result (found.new.items ≡ after_text tally.now (map plain_mod mods.now) (plain_func f.now) found.old.items) }
+    ensures { OnOk result (found.new.items ≡ with_text tally.now mods.now f.now found.old.items) }
 {
     push_uses(tally, mods, &f.uses, found)?;
     push_body(tally, &f.body, found)?;
@@ -115,7 +115,7 @@ fn push_text(
 }
 
 fn push_function(tally: &Tally, core: &Core, k: u32, found: &mut Vec<Label>) -> Result<(), NoMemory>
-    ensures { OnOk result (found.new.items ≡ after_function tally.now (map plain_mod core.now.mods) (slice_get (map plain_func core.now.funcs) k) found.old.items) }
+    ensures { OnOk result (found.new.items ≡ with_function tally.now core.now k found.old.items) }
 {
     let Some(f) = core.funcs.get(k as usize) else {
         return Ok(());
@@ -128,7 +128,7 @@ fn push_given(
     given: &Items<BaseArgs>,
     found: &mut Vec<Label>,
 ) -> Result<(), NoMemory>
-    ensures { OnOk result (found.new.items ≡ after_given tally.now (map plain_given given.now) found.old.items) }
+    ensures { OnOk result (found.new.items ≡ with_given tally.now given.now found.old.items) }
 {
     for g in given.as_slice() {
         push_exprs(tally, &g.args, found)?;
@@ -141,7 +141,7 @@ fn push_ctors(
     ctors: &Items<CtorInfo>,
     found: &mut Vec<Label>,
 ) -> Result<(), NoMemory>
-    ensures { OnOk result (found.new.items ≡ after_ctors tally.now (map plain_ctor ctors.now) found.old.items) }
+    ensures { OnOk result (found.new.items ≡ with_ctors tally.now ctors.now found.old.items) }
 {
     for k in ctors.as_slice() {
         push_given(tally, &k.base_args, found)?;

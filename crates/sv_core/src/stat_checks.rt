@@ -1,8 +1,9 @@
 #![tactic(auto, using(crate::proofs::Walked::walks))]
 
 ghost use Rattle.std.specs.Prelude.{◌≡◌, OnOk, map};
-ghost use Rattle.sv_core.specs.CheckWalk.{after_stmt, after_act, after_body, after_arm, after_arms};
-ghost use Rattle.sv_core.specs.PlainCode.{plain_stat, plain_act, plain_arm, arms, stmts};
+ghost use Rattle.sv_core.specs.CheckWalk.{after_body};
+ghost use Rattle.sv_core.specs.CodeWalk.{with_stat, with_act, with_arm, with_arms};
+ghost use Rattle.sv_core.specs.PlainCode.{plain_stat, stmts};
 
 use crate::expr_checks::{push_expr, push_exprs};
 use crate::label::{Label, Site};
@@ -13,7 +14,7 @@ use sv_text::{NoMemory, Place};
 
 #[cycle(stat_checks)]
 fn push_stat(tally: &Tally, s: &Stat, found: &mut Vec<Label>) -> Result<(), NoMemory>
-    ensures { OnOk result (found.new.items ≡ after_stmt tally.now (plain_stat s.now) found.old.items) }
+    ensures { OnOk result (found.new.items ≡ with_stat tally.now s.now found.old.items) }
 {
     push_act(tally, s.place, &s.kind, found)
 }
@@ -31,7 +32,7 @@ pub fn push_body(tally: &Tally, body: &Items<Stat>, found: &mut Vec<Label>) -> R
 
 #[cycle(stat_checks)]
 fn push_arm(tally: &Tally, arm: &Arm, found: &mut Vec<Label>) -> Result<(), NoMemory>
-    ensures { OnOk result (found.new.items ≡ after_arm tally.now (plain_arm arm.now) found.old.items) }
+    ensures { OnOk result (found.new.items ≡ with_arm tally.now arm.now found.old.items) }
 {
     push_expr(tally, &arm.test, found)?;
     push_body(tally, &arm.body, found)
@@ -39,7 +40,7 @@ fn push_arm(tally: &Tally, arm: &Arm, found: &mut Vec<Label>) -> Result<(), NoMe
 
 #[cycle(stat_checks)]
 fn push_arms(tally: &Tally, list: &Items<Arm>, found: &mut Vec<Label>) -> Result<(), NoMemory>
-    ensures { OnOk result (found.new.items ≡ after_arms tally.now (arms (map plain_arm list.now)) found.old.items) }
+    ensures { OnOk result (found.new.items ≡ with_arms tally.now list.now found.old.items) }
 {
     for arm in list.as_slice() {
         push_arm(tally, arm, found)?;
@@ -54,7 +55,7 @@ fn push_act(
     kind: &StatKind,
     found: &mut Vec<Label>,
 ) -> Result<(), NoMemory>
-    ensures { OnOk result (found.new.items ≡ after_act tally.now place (plain_act kind.now) found.old.items) }
+    ensures { OnOk result (found.new.items ≡ with_act tally.now place kind.now found.old.items) }
 {
     match kind {
         StatKind::Set(target, value) => {

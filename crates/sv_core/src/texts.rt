@@ -1,5 +1,6 @@
-ghost use Rattle.std.specs.Prelude.{◌≡◌, ◌++◌, ◌<◌, IfOk, OnOk, length, slice_get};
-ghost use Rattle.sv_core.specs.LabelTexts.{numbered_text, check_text, site_text, text_of_label, text_of_func, text_of_function, defined_by, label_order, HasNames, HasFunctionNames, HasOwnerName};
+ghost use Rattle.std.specs.Prelude.{◌≡◌, ◌++◌, ◌<◌, IfOk, OnOk, length};
+ghost use Rattle.sv_core.specs.LabelTexts.{row_text, check_text, site_text, text_of_label, text_of_func, label_order, HasNames, HasFunctionNames, HasOwnerName};
+ghost use Rattle.sv_core.specs.CodeWalk.{function_name, owner_name};
 ghost use Rattle.sv_core.specs.PlainCore.{plain_core, plain_func};
 
 use crate::contract::{Core, FuncInfo};
@@ -31,19 +32,19 @@ pub fn label_text(alloc: Global, names: &Names, l: &Label) -> Result<Vec<u8>, No
 /// Adds a number between two texts, and a name behind them.
 fn push_row(
     alloc: Global,
-    text: &mut Vec<u8>,
+    to: &mut Vec<u8>,
     front: &[u8],
-    number: u32,
+    n: u32,
     back: &[u8],
     name: &[u8],
 ) -> Result<(), NoMemory>
-    ensures { OnOk result (text.new.items ≡ text.old.items ++ numbered_text front.now number back.now name.now) }
+    ensures { OnOk result (to.new.items ≡ to.old.items ++ row_text front.now n back.now name.now) }
 {
-    let digits = format!(in alloc; "{number}")?;
-    text.extend_from_slice(front)?;
-    text.extend_from_slice(digits.as_bytes())?;
-    text.extend_from_slice(back)?;
-    text.extend_from_slice(name)?;
+    let digits = format!(in alloc; "{n}")?;
+    to.extend_from_slice(front)?;
+    to.extend_from_slice(digits.as_bytes())?;
+    to.extend_from_slice(back)?;
+    to.extend_from_slice(name)?;
     Ok(())
 }
 
@@ -120,7 +121,7 @@ pub fn func_text(alloc: Global, core: &Core, names: &Names, f: FuncId) -> Result
 /// Adds a function's name, behind that of its contract where another of its name is more derived.
 fn push_function(core: &Core, names: &Names, k: u32, text: &mut Vec<u8>) -> Result<(), NoMemory>
     requires { HasFunctionNames names.now (plain_core core.now) k }
-    ensures { OnOk result (text.new.items ≡ text.old.items ++ text_of_function names.now (plain_core core.now) (slice_get (plain_core core.now).funcs k)) }
+    ensures { OnOk result (text.new.items ≡ text.old.items ++ function_name names.now core.now k) }
 {
     let Some(f) = core.funcs.get(k as usize) else {
         return Ok(());
@@ -137,7 +138,7 @@ fn push_definer(
     text: &mut Vec<u8>,
 ) -> Result<(), NoMemory>
     requires { HasOwnerName names.now (plain_core core.now) (plain_func f.now) }
-    ensures { OnOk result (text.new.items ≡ text.old.items ++ defined_by names.now (plain_core core.now) (plain_func f.now)) }
+    ensures { OnOk result (text.new.items ≡ text.old.items ++ owner_name names.now core.now f.now) }
 {
     if f.top {
         return Ok(());
