@@ -24,10 +24,7 @@ fn tuple(alloc: Global, numbers: &[usize]) -> Result<Option<Node>, NoMemory> {
     for arg in args {
         ids.push(TermId(*arg))?;
     }
-    Ok(Some(Node::Tup(
-        SortId(*sort),
-        Args::of(alloc, ids.as_slice())?,
-    )))
+    Ok(Some(Node::Tup(SortId(*sort), Args::of(alloc, ids.as_slice())?)))
 }
 
 fn of_none(name: &str) -> Option<Node> {
