@@ -1,3 +1,4 @@
 mod ByHand
+mod Combining
 mod Places
 mod Saturation

@@ -1,8 +1,11 @@
-//! Elimination over rows, as definitions: the entries that it adds, its four answers with their causes, and their renumbering for a longer log.
+//! Elimination over rows: the entries that it adds, its answers with their causes and their renumbering for a longer log, as definitions; and the combination of two rows.
 //!
-//! Promises: the laws of `laws`; there is no code here yet.
-//! Stands on: `sv_log` (rows, entries, acceptance), `sv_point` (the nearest point), `sv_row`.
+//! Promises: `combine_rows` gives what two rows make by cancelling their greatest column; the laws of `laws`. The call that eliminates is still to come.
+//! Stands on: `sv_log` (rows, entries, acceptance), `sv_point` (the nearest point), `sv_row` (sums of rows), `sv_num`, `sv_text` (want of memory).
 //! Read first: `specs/Eliminations.antt`, then `specs/Renumbering.antt`.
 #![tactic(auto)]
 
 pub mod laws;
+mod step;
+
+pub use step::{Combination, combine_rows};
