@@ -1,0 +1,4 @@
+pub mod Commands
+pub mod CommandShapes
+pub mod FormedCommands
+pub mod WorkedRuns

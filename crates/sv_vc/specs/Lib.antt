@@ -1,0 +1,4 @@
+pub mod Replacing
+pub mod Conjunctions
+pub mod ConditionWalk
+pub mod ConditionsExact
