@@ -173,11 +173,15 @@ pub fn built(alloc: Global, names: &mut Names, plan: &Plan<'_>) -> Result<Core, 
     })
 }
 
-/// A contract with one function, whose text holds so many checks, the last of which comes first.
+/// A contract with one function, whose text holds so many checks, with places from both ends of a text in turn.
 pub fn many(alloc: Global, names: &mut Names, count: u32) -> Result<Core, NoMemory> {
     let mut acts = Vec::new(alloc);
     for k in 0..count {
-        acts.push(Act::Assert(count - k, 9))?;
+        acts.push(if k % 2 == 0 {
+            Act::Assert(k + 1, 9)
+        } else {
+            Act::Assert(count - k, 17)
+        })?;
     }
     let plan = FuncPlan {
         name: "f",
