@@ -8,4 +8,3 @@ pub mod Unread
 pub mod NewReads
 pub mod NewSpells
 pub mod Named
-pub mod ClassLemmas

@@ -1,7 +1,7 @@
-pub mod TokenClasses
+pub mod Classes
 pub mod Here
-pub mod PartReading
+pub mod Reading
 pub mod Nesting
-pub mod EitherTree
-pub mod FilledParts
+pub mod Trees
+pub mod Tables
 pub mod Choosing

@@ -1,0 +1,16 @@
+use Rattle.std.proofs.Common.{◌-◌, ◌<◌, ◌≤◌, [], ◌∷◌, length, map}
+use Rattle.sv_ast.specs.Syntax.{id}
+use Rattle.sv_ast.specs.Terminals as k
+use Rattle.sv_grammar.specs.Grammar.{name}
+use Rattle.sv_parse_expr.specs.Reading.{Lists}
+use Rattle.sv_parse_unit.proofs.over.names.Given as goal
+
+abbrev pub invariant-more : goal.invariant-more
+invariant-more l = record {
+  lists : Lists l.input id (k.comma ∷ []) l.at (map name l.items) l.now;
+  from : l.at < l.now;
+  within : l.now ≤ length l.input.tokens;
+}
+
+abbrev pub decreases-more : goal.decreases-more
+decreases-more l = length l.input.tokens - l.now
