@@ -10,7 +10,8 @@ use Rattle.sv_grammar.proofs.Checks.{tables}
 use Rattle.sv_grammar.proofs.Tests.{single, seconds, filled, through}
 use Rattle.sv_grammar.proofs.Tested.{looks_through, single_if, seconds_if}
 use Rattle.sv_grammar.proofs.Criteria.{apart_by_lists, apart_by, all_apart_by}
-use Rattle.sv_ast.specs.Terminals as k
+use Rattle.sv_ast.specs.Terminals.{code}
+use Rattle.sv_ast.specs.declared.class.Class.TheVariants as k
 use Rattle.sv_ast.specs.Syntax.{Side, rules, ◌⊙◌, quoted, ids, several, brackets, but_semicolon}
 use Rattle.sv_ast.specs.Syntax as g
 use Rattle.sv_ast.specs.Firsts.{nulls, firsts}
@@ -72,12 +73,12 @@ apart_behind_new s t cs ks a b p q opens_s opens_t h = record {
 }
 
 -- `new` with a type of one name, and with a longer one
-new_apart : Apart rules (k.dot ∷ k.l_bracket ∷ []) (side g.new_name ⊙ opt (side g.after_name ⊙ star (side g.suffix))) (side g.new_longer ⊙ opt (side g.after_longer ⊙ star (side g.suffix)))
+new_apart : Apart rules (code k.Dot ∷ code k.LBracket ∷ []) (side g.new_name ⊙ opt (side g.after_name ⊙ star (side g.suffix))) (side g.new_longer ⊙ opt (side g.after_longer ⊙ star (side g.suffix)))
 new_apart =
-    apart_behind_new g.new_name g.new_longer (k.new ∷ []) (k.dot ∷ k.l_bracket ∷ [])
+    apart_behind_new g.new_name g.new_longer (code k.New ∷ []) (code k.Dot ∷ code k.LBracket ∷ [])
     (side g.name_type) (side g.longer_type) (opt (side g.after_name ⊙ star (side g.suffix))) (opt (side g.after_longer ⊙ star (side g.suffix)))
     (λ ys u d. of_side rules d) (λ ys u d. of_side rules d)
-    (apart_by rules nulls firsts conts all_chars rounds checked 2 0 (k.dot ∷ k.l_bracket ∷ [])
+    (apart_by rules nulls firsts conts all_chars rounds checked 2 0 (code k.Dot ∷ code k.LBracket ∷ [])
     (side g.name_type ⊙ opt (side g.after_name ⊙ star (side g.suffix))) (side g.longer_type ⊙ opt (side g.after_longer ⊙ star (side g.suffix))) refl)
 
 -- a type of one name with brackets, and another type that is longer than one name
@@ -86,7 +87,7 @@ longer_apart =
     apart_by_lists (side g.name_plain ⊙ several brackets) (side g.longer_plain ⊙ star brackets)
     (filled (through rules 1) (side g.name_plain ⊙ several brackets)) (filled (through rules 1) (side g.longer_plain ⊙ star brackets))
     (λ xs t d. looks_through 1 (side g.name_plain ⊙ several brackets) d) (λ xs t d. looks_through 1 (side g.longer_plain ⊙ star brackets) d)
-    (apart_by_second (k.dot ∷ []) (filled (through rules 1) (side g.name_plain ⊙ several brackets)) (filled (through rules 1) (side g.longer_plain ⊙ star brackets)) refl refl refl refl refl refl)
+    (apart_by_second (code k.Dot ∷ []) (filled (through rules 1) (side g.name_plain ⊙ several brackets)) (filled (through rules 1) (side g.longer_plain ⊙ star brackets)) refl refl refl refl refl refl)
 
 -- where a list of one alternative goes on past the end of a list of the other, it is by one of the classes of the `both`
 pub apart : (s : Side) → AllApart rules (rules s)
@@ -95,63 +96,9 @@ apart g.post = (new_apart, tt)
 apart g.longer_type = (longer_apart, tt)
 apart g.unit = all_apart_by rules nulls firsts conts all_chars rounds checked 1 0 (rules g.unit) refl
 apart g.part = all_apart_by rules nulls firsts conts all_chars rounds checked 1 0 (rules g.part) refl
-apart g.stmt = all_apart_by rules nulls firsts conts all_chars rounds checked 1 0 (rules g.stmt) refl
+apart g.stmt = all_apart_by rules nulls firsts conts all_chars rounds checked 2 0 (rules g.stmt) refl
 apart g.for = all_apart_by rules nulls firsts conts all_chars rounds checked 1 0 (rules g.for) refl
 apart g.simple = all_apart_by rules nulls firsts conts all_chars rounds checked 1 0 (rules g.simple) refl
 apart g.return = all_apart_by rules nulls firsts conts all_chars rounds checked 1 0 (rules g.return) refl
 apart g.slot = all_apart_by rules nulls firsts conts all_chars rounds checked 2 0 (rules g.slot) refl
-apart g.file_const = tt
-apart g.contract = tt
-apart g.bases = tt
-apart g.base = tt
-apart g.variable = tt
-apart g.var_word = tt
-apart g.function = tt
-apart g.ctor = tt
-apart g.special = tt
-apart g.modifier = tt
-apart g.head = tt
-apart g.over = tt
-apart g.struct = tt
-apart g.field = tt
-apart g.enum = tt
-apart g.event = tt
-apart g.ev_par = tt
-apart g.error = tt
-apart g.er_par = tt
-apart g.params = tt
-apart g.param = tt
-apart g.location = tt
-apart g.type = tt
-apart g.plain = tt
-apart g.note_line = tt
-apart g.block = tt
-apart g.body = tt
-apart g.if = tt
-apart g.while = tt
-apart g.decl = tt
-apart g.tuple = tt
-apart g.action = tt
-apart g.assign_op = tt
-apart g.args = tt
-apart g.expr = tt
-apart g.or = tt
-apart g.and = tt
-apart g.same = tt
-apart g.less = tt
-apart g.sum = tt
-apart g.prod = tt
-apart g.term = tt
-apart g.unary = tt
-apart g.power = tt
-apart g.atom = tt
-apart g.unit10 = tt
-apart g.else_part = tt
-apart g.suffix = tt
-apart g.after_name = tt
-apart g.after_longer = tt
-apart g.new_name = tt
-apart g.name_type = tt
-apart g.name_plain = tt
-apart g.new_longer = tt
-apart g.longer_plain = tt
+apart _ = tt

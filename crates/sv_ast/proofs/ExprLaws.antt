@@ -3,7 +3,7 @@ use Rattle.std.proofs.Common.{◌≡◌, ℕ, Bool, List, map, Option, Some, Non
 use Rattle.sv_text.specs.declared.span.Span.{Span}
 use Rattle.sv_text.specs.declared.place.Place.{Place}
 use Rattle.sv_grammar.specs.Grammar.{Tree, unit, name, pair, node}
-use Rattle.sv_grammar.specs.Reading.{list_tree}
+use Rattle.sv_grammar.specs.ListTrees.{list_tree}
 use Rattle.sv_ast.specs.Trees.{extent, ◌⊗◌, nth, last, optional, optional_word, optional_commas}
 use Rattle.sv_ast.specs.declared.expr.SameOp.{SameOp}
 use Rattle.sv_ast.specs.declared.expr.LessOp.{LessOp}

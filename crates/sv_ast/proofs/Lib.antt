@@ -8,3 +8,4 @@ pub mod Unread
 pub mod NewReads
 pub mod NewSpells
 pub mod Named
+pub mod ClassLemmas

@@ -3,11 +3,10 @@ use Rattle.std.proofs.Common.{◌≡◌, ◌≢◌, ℕ, ◌<◌, ◌≤◌, Lis
 use Rattle.std.specs.Prelude.{slice_get, AllPairs}
 use Rattle.std.proofs.lemmas.Option.{slice_get_within, get_or_from_slice_get}
 use Rattle.std.proofs.Math.Nat.{eq-or-lt_of_le}
-use Rattle.sv_grammar.specs.Grammar.{Token, Tree, name, left, right, some, node}
+use Rattle.sv_grammar.specs.Grammar.{Part, Tree, name, left, right, some, node}
 use Rattle.sv_grammar.specs.Named.{Spells, unit_spells, none_spells, nil_spells, name_spells, pair_spells, cons_spells, left_spells, right_spells, some_spells, node_spells}
 use Rattle.sv_ast.specs.Syntax.{Side}
-use Rattle.sv_ast.specs.Trees.{IsTree}
-use Rattle.sv_ast.proofs.Exactly.{tree_is_one}
+use Rattle.sv_ast.specs.GrammarLaws.{IsOne, IsOneNamed}
 
 abbrev AreDistinct : List (List ℕ) → Type 0
 AreDistinct names = AllPairs (λ x y. x ≢ y) names
@@ -37,5 +36,5 @@ spells_one all (right_spells s) (right_spells q) = ap right (spells_one all s q)
 spells_one all (some_spells s) (some_spells q) = ap some (spells_one all s q)
 spells_one all (node_spells {x} s) (node_spells q) = ap (node x) (spells_one all s q)
 
-pub named_tree_is_one : (names : List (List ℕ)) (s : Side) (tokens : List Token) (t u : Tree) → AreDistinct names → IsTree names s tokens t → IsTree names s tokens u → t ≡ u
-named_tree_is_one names s tokens t u all (v, p, d) (w, q, e) = spells_one all p (subst (λ z. Spells names u z) (sym (tree_is_one s tokens v w d e)) q)
+pub named_one : {a : Part Side} → IsOne a → IsOneNamed a
+named_one one names tokens t u all (v, p, d) (w, q, e) = spells_one all p (subst (λ z. Spells names u z) (sym (one tokens v w d e)) q)

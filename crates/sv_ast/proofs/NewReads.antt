@@ -2,11 +2,13 @@
 use Rattle.std.proofs.Common.{◌≡◌, ℕ, ◌≤◌, ◌<◌, Bool, true, false, List, [], ◌∷◌, ◌++◌, length, refl, sym, ap, subst, ◌∙◌, ◌⊎◌, inl, inr, arith}
 use Rattle.std.proofs.Math.Nat.{eq-or-lt_of_le}
 use Rattle.sv_grammar.specs.Grammar.{Extent, Token, Part, word, text, seq, alt, opt, star, both, side, Tree, unit, leaf, name, pair, left, right, none, some, nil, cons, node, elem, extent_of}
-use Rattle.sv_grammar.specs.Reading.{Outcome, found, fault, rest_of, Beats, after, next, first, disjoint, subset, Reads, read_nothing, read_word, no_word, read_text, no_text, read_seq, late_seq, no_seq, read_left, read_right, read_none, read_some, read_nil, read_cons, late_cons, no_cons, read_one, read_other, read_side, no_side, list_tree}
+use Rattle.sv_grammar.specs.Reading.{Outcome, found, fault, rest_of, Beats, after, next, first, disjoint, subset, Reads, read_nothing, read_word, no_word, read_text, no_text, read_seq, late_seq, no_seq, read_left, read_right, read_none, read_some, read_nil, read_cons, late_cons, no_cons, read_one, read_other, read_side, no_side}
+use Rattle.sv_grammar.specs.ListTrees.{list_tree}
 use Rattle.sv_grammar.proofs.Sets.{elem-disjoint, elem-subset, elem_either}
 use Rattle.sv_ast.proofs.Nothing.{rest_after, nothing_read}
 use Rattle.sv_ast.proofs.Apart.{right_tables}
-use Rattle.sv_ast.specs.Terminals as k
+use Rattle.sv_ast.specs.Terminals.{code}
+use Rattle.sv_ast.specs.declared.class.Class.TheVariants as k
 use Rattle.sv_ast.specs.Syntax.{Side, rules, ids, brackets}
 use Rattle.sv_ast.specs.Syntax as g
 use Rattle.sv_ast.specs.Firsts.{nulls, firsts}
@@ -86,8 +88,8 @@ FindsLonger p = (t : Tree) (rest : List Token) → p ≡ found t rest → IsLong
 
 -- one name, one name with a member, or another type
 data PlainRead : List Token → Outcome → Type 0 where
-  is_bare : {j : Token} {ms : List Token} → elem j.class ids ≡ true → elem (next ms) (k.dot ∷ []) ≡ false → PlainRead (j ∷ ms) (found (nth 3 (leaf j.text ⊗ none)) ms)
-  is_dotted : {j : Token} {ms : List Token} {p : Outcome} → elem j.class ids ≡ true → elem (next ms) (k.dot ∷ []) ≡ true
+  is_bare : {j : Token} {ms : List Token} → elem j.class ids ≡ true → elem (next ms) (code k.Dot ∷ []) ≡ false → PlainRead (j ∷ ms) (found (nth 3 (leaf j.text ⊗ none)) ms)
+  is_dotted : {j : Token} {ms : List Token} {p : Outcome} → elem j.class ids ≡ true → elem (next ms) (code k.Dot ∷ []) ≡ true
       → R (rules g.longer_plain) (j ∷ ms) (after longer_plain_tree p) → length (rest_of p) < length ms → FindsLonger p → PlainRead (j ∷ ms) p
   is_other : {ts : List Token} {p : Outcome} → elem (next ts) ids ≡ false → R (rules g.longer_plain) ts (after longer_plain_tree p) → FindsLonger p → PlainRead ts p
 
@@ -143,14 +145,14 @@ word_less h r = by_seq h (of_seq_read r)
     by_seq h (is_none (no_word n) e) = cc
 
 -- a name, perhaps with a member
-named_read : {ts : List Token} {o : Outcome} → R (seq (text ids) (opt (seq (word (k.dot ∷ [])) (text ids)))) ts o
-    → elem (next ts) (k.elementary ∷ []) ≡ false → elem (next ts) (k.address ∷ []) ≡ false → elem (next ts) (k.string ∷ []) ≡ false → elem (next ts) ids ≡ true
+named_read : {ts : List Token} {o : Outcome} → R (seq (text ids) (opt (seq (word (code k.Dot ∷ [])) (text ids)))) ts o
+    → elem (next ts) (code k.Elementary ∷ []) ≡ false → elem (next ts) (code k.Address ∷ []) ≡ false → elem (next ts) (code k.String ∷ []) ≡ false → elem (next ts) ids ≡ true
     → {p : Outcome} → p ≡ after (λ t. nth 3 t) o → PlainRead ts p
 named_read r h₀ h₁ h₂ h₃ {p} e = by_seq (of_seq_read r) h₀ h₁ h₂ h₃ e
   where
     by_opt : (j : Token) (ms : List Token) {q : Outcome} → elem j.class ids ≡ true
-        → ((elem (next ms) (k.dot ∷ []) ≡ false) × (q ≡ found none ms)) ⊎ ((elem (next ms) (k.dot ∷ []) ≡ true) × (o : Outcome) × R (seq (word (k.dot ∷ [])) (text ids)) ms o × (q ≡ after some o))
-        → elem j.class (k.elementary ∷ []) ≡ false → elem j.class (k.address ∷ []) ≡ false → elem j.class (k.string ∷ []) ≡ false
+        → ((elem (next ms) (code k.Dot ∷ []) ≡ false) × (q ≡ found none ms)) ⊎ ((elem (next ms) (code k.Dot ∷ []) ≡ true) × (o : Outcome) × R (seq (word (code k.Dot ∷ [])) (text ids)) ms o × (q ≡ after some o))
+        → elem j.class (code k.Elementary ∷ []) ≡ false → elem j.class (code k.Address ∷ []) ≡ false → elem j.class (code k.String ∷ []) ≡ false
         → {p : Outcome} → p ≡ after (λ t. nth 3 (leaf j.text ⊗ t)) q → PlainRead (j ∷ ms) p
     by_opt j ms {q} h (inl (n, e)) h₀ h₁ h₂ {p} d = subst (λ w. PlainRead (j ∷ ms) w) (sym (d ∙ ap (after (λ t. nth 3 (leaf j.text ⊗ t))) e)) (is_bare h n)
     by_opt j ms {q} h (inr (n, found m vs, r, e)) h₀ h₁ h₂ {p} d =
@@ -166,8 +168,8 @@ named_read r h₀ h₁ h₂ h₃ {p} e = by_seq (of_seq_read r) h₀ h₁ h₂ h
         (let less = word_less n r in rw whole less)
         (λ t rest a. cc)
 
-    by_seq : {ts : List Token} {o : Outcome} → SeqRead rules nulls firsts (text ids) (opt (seq (word (k.dot ∷ [])) (text ids))) ts o
-        → elem (next ts) (k.elementary ∷ []) ≡ false → elem (next ts) (k.address ∷ []) ≡ false → elem (next ts) (k.string ∷ []) ≡ false → elem (next ts) ids ≡ true
+    by_seq : {ts : List Token} {o : Outcome} → SeqRead rules nulls firsts (text ids) (opt (seq (word (code k.Dot ∷ [])) (text ids))) ts o
+        → elem (next ts) (code k.Elementary ∷ []) ≡ false → elem (next ts) (code k.Address ∷ []) ≡ false → elem (next ts) (code k.String ∷ []) ≡ false → elem (next ts) ids ≡ true
         → {p : Outcome} → p ≡ after (λ t. nth 3 t) o → PlainRead ts p
     by_seq (is_whole (read_text {k = j} {ts = ms} h) q e) h₀ h₁ h₂ h₃ g = by_opt j ms h (of_opt_read q) h₀ h₁ h₂ (g ∙ ap (after (λ t. nth 3 t)) e)
     by_seq (is_late (read_text {k = j} {ts = ms} h) q e) h₀ h₁ h₂ h₃ g = by_opt j ms h (of_opt_read q) h₀ h₁ h₂ (g ∙ ap (after (λ t. nth 3 t)) e)
@@ -175,18 +177,18 @@ named_read r h₀ h₁ h₂ h₃ {p} e = by_seq (of_seq_read r) h₀ h₁ h₂ h
 
 plain_read : {ts : List Token} {p : Outcome} → R (rules g.plain) ts p → PlainRead ts p
 plain_read {ts} {p} r₀ = elim (of_alt_read r₀) [
-  | inl (h₀, o, r, e) ↦ is_other (no_id (next ts) (k.elementary ∷ []) refl h₀) (stays (λ t. nth 0 t) (λ t. refl) o e (read_left h₀ r)) (finds_longer (λ t. nth 0 t) longer_0 o e)
+  | inl (h₀, o, r, e) ↦ is_other (no_id (next ts) (code k.Elementary ∷ []) refl h₀) (stays (λ t. nth 0 t) (λ t. refl) o e (read_left h₀ r)) (finds_longer (λ t. nth 0 t) longer_0 o e)
   | inr (h₀, o₀, r₁, e₀) ↦ elim (of_alt_read r₁) [
     | inl (h₁, o, r, e₁) ↦ (
         let e : p ≡ after (λ t. nth 1 t) o = e₀ ∙ ap (after right) e₁ ∙ twice right left o in
-        is_other (no_id (next ts) (k.address ∷ []) refl h₁)
+        is_other (no_id (next ts) (code k.Address ∷ []) refl h₁)
         (stays (λ t. nth 1 t) (λ t. refl) o e (subst (λ w. R (rules g.longer_plain) ts w) (twice right left o) (read_right h₀ (read_left h₁ r))))
         (finds_longer (λ t. nth 1 t) longer_1 o e))
     | inr (h₁, o₁, r₂, e₁) ↦ elim (of_alt_read r₂) [
       | inl (h₂, o, r, e₂) ↦ (
           let q : after right (after right (after left o)) ≡ after (λ t. nth 2 t) o = ap (after right) (twice right left o) ∙ twice right (λ t. right (left t)) o in
           let e : p ≡ after (λ t. nth 2 t) o = e₀ ∙ ap (after right) (e₁ ∙ ap (after right) e₂) ∙ q in
-          is_other (no_id (next ts) (k.string ∷ []) refl h₂)
+          is_other (no_id (next ts) (code k.String ∷ []) refl h₂)
           (stays (λ t. nth 2 t) (λ t. refl) o e (subst (λ w. R (rules g.longer_plain) ts w) q (read_right h₀ (read_right h₁ (read_left h₂ r)))))
           (finds_longer (λ t. nth 2 t) longer_2 o e))
       | inr (h₂, o₂, r₃, e₂) ↦ elim (of_alt_read r₃) [
@@ -231,7 +233,7 @@ second_read (read_left h r) n = cc
 second_read (read_right {o} h r) n = (o, r, refl)
 
 -- a first suffix that is none of the first forms
-longer_suffix : {us : List Token} {o : Outcome} → R (side g.suffix) us o → elem (next us) (k.l_bracket ∷ []) ≡ false → R (side g.after_longer) us (after (suffix_behind 1) o)
+longer_suffix : {us : List Token} {o : Outcome} → R (side g.suffix) us o → elem (next us) (code k.LBracket ∷ []) ≡ false → R (side g.after_longer) us (after (suffix_behind 1) o)
 longer_suffix {us} (read_side used e r) h = let m = second_read r h in by_outcome used e m.0 m.1 m.2
   where
     by_outcome : {vs : List Token} {t : Tree} (used : List Token) → us ≡ used ++ vs → (o : Outcome) → R (rules g.after_longer) us o → found t vs ≡ after right o → R (side g.after_longer) us (found (suffix_behind 1 (node (extent_of used) t)) vs)
@@ -247,7 +249,7 @@ longer_suffix {us} (no_side r) h = let m = second_read r h in by_outcome m.0 m.1
     by_outcome (found u ws) r q = cc
     by_outcome (fault ws) r q = let same_rest : ws ≡ _ = cc in no_side (subst (λ v. R (rules g.after_longer) us (fault v)) same_rest r)
 
-name_suffix : {us : List Token} {o : Outcome} → R (side g.after_longer) us o → elem (next us) (k.dot ∷ []) ≡ false → R (side g.after_name) us (after (suffix_behind 1) o)
+name_suffix : {us : List Token} {o : Outcome} → R (side g.after_longer) us o → elem (next us) (code k.Dot ∷ []) ≡ false → R (side g.after_name) us (after (suffix_behind 1) o)
 name_suffix {us} (read_side used e r) h = let m = second_read r h in by_outcome used e m.0 m.1 m.2
   where
     by_outcome : {vs : List Token} {t : Tree} (used : List Token) → us ≡ used ++ vs → (o : Outcome) → R (rules g.after_name) us o → found t vs ≡ after right o → R (side g.after_name) us (found (suffix_behind 1 (node (extent_of used) t)) vs)
@@ -316,14 +318,14 @@ module _ (s : Side) (n : ℕ) (others : List ℕ)
   suffixes_read {us} (late_cons {us = vs} {t} h r q) e = read_some (begins us h e) (late_seq (one us (found t vs) r e) q)
   suffixes_read {us} (no_cons {us = vs} h r) e = read_some (begins us h e) (no_seq (one us (fault vs) r e))
 
-after_longer_read : {us : List Token} {o : Outcome} → R (star (side g.suffix)) us o → elem (next us) (k.l_bracket ∷ []) ≡ false → R (opt (seq (side g.after_longer) (star (side g.suffix)))) us (after (first_behind 1) o)
-after_longer_read = suffixes_read g.after_longer 1 (k.l_bracket ∷ []) refl refl refl (λ us o r e. longer_suffix r e)
+after_longer_read : {us : List Token} {o : Outcome} → R (star (side g.suffix)) us o → elem (next us) (code k.LBracket ∷ []) ≡ false → R (opt (seq (side g.after_longer) (star (side g.suffix)))) us (after (first_behind 1) o)
+after_longer_read = suffixes_read g.after_longer 1 (code k.LBracket ∷ []) refl refl refl (λ us o r e. longer_suffix r e)
 
-after_name_read : {us : List Token} {o : Outcome} → R (star (side g.suffix)) us o → elem (next us) (k.l_bracket ∷ []) ≡ false → elem (next us) (k.dot ∷ []) ≡ false → R (opt (seq (side g.after_name) (star (side g.suffix)))) us (after (first_behind 2) o)
+after_name_read : {us : List Token} {o : Outcome} → R (star (side g.suffix)) us o → elem (next us) (code k.LBracket ∷ []) ≡ false → elem (next us) (code k.Dot ∷ []) ≡ false → R (opt (seq (side g.after_name) (star (side g.suffix)))) us (after (first_behind 2) o)
 after_name_read {us} r e h =
-    suffixes_read g.after_name 2 (k.l_bracket ∷ k.dot ∷ []) refl refl refl
-    (λ vs o q n. subst (λ w. R (side g.after_name) vs w) (suffix_twice o) (name_suffix (longer_suffix q (not_in_part (next vs) (k.l_bracket ∷ []) (k.l_bracket ∷ k.dot ∷ []) refl n)) (not_in_part (next vs) (k.dot ∷ []) (k.l_bracket ∷ k.dot ∷ []) refl n)))
-    r (neither (next us) (k.l_bracket ∷ []) (k.dot ∷ []) e h)
+    suffixes_read g.after_name 2 (code k.LBracket ∷ code k.Dot ∷ []) refl refl refl
+    (λ vs o q n. subst (λ w. R (side g.after_name) vs w) (suffix_twice o) (name_suffix (longer_suffix q (not_in_part (next vs) (code k.LBracket ∷ []) (code k.LBracket ∷ code k.Dot ∷ []) refl n)) (not_in_part (next vs) (code k.Dot ∷ []) (code k.LBracket ∷ code k.Dot ∷ []) refl n)))
+    r (neither (next us) (code k.LBracket ∷ []) (code k.Dot ∷ []) e h)
   where
     neither : (c : ℕ) (cs ms : List ℕ) → elem c cs ≡ false → elem c ms ≡ false → elem c (cs ++ ms) ≡ false
     neither c cs ms n m = by_test (elem c (cs ++ ms)) (λ x. elem_either c cs ms x)
@@ -341,14 +343,14 @@ abbrev LongerPost : Part Side
 LongerPost = seq (side g.new_longer) (opt (seq (side g.after_longer) (star (side g.suffix))))
 
 abbrev NewPost : Part Side
-NewPost = both (k.dot ∷ k.l_bracket ∷ []) NamePost LongerPost
+NewPost = both (code k.Dot ∷ code k.LBracket ∷ []) NamePost LongerPost
 
 then_read : {a b : Part Side} {ts us : List Token} {t : Tree} {o : Outcome} → R a ts (found t us) → R b us o → R (seq a b) ts (after (pair t) o)
 then_read {o = found u vs} r q = read_seq r q
 then_read {o = fault vs} r q = late_seq r q
 
 -- brackets in a row: none, or one or more
-star_end : {ms us : List Token} {d : Tree} → R (star brackets) ms (found d us) → elem (next us) (k.l_bracket ∷ []) ≡ false
+star_end : {ms us : List Token} {d : Tree} → R (star brackets) ms (found d us) → elem (next us) (code k.LBracket ∷ []) ≡ false
 star_end (read_nil h) = h
 star_end (read_cons h r q) = star_end q
 
@@ -358,9 +360,9 @@ as_cons (pair b bs) = cons b bs
 as_cons t = t
 
 data BracketsRead (ms : List Token) : Outcome → Type 0 where
-  no_brackets : elem (next ms) (k.l_bracket ∷ []) ≡ false → BracketsRead ms (found nil ms)
-  some_brackets : {b bs : Tree} {us : List Token} → R (seq brackets (star brackets)) ms (found (pair b bs) us) → elem (next ms) (k.l_bracket ∷ []) ≡ true → length us < length ms → BracketsRead ms (found (cons b bs) us)
-  late_brackets : {us : List Token} → R (seq brackets (star brackets)) ms (fault us) → elem (next ms) (k.l_bracket ∷ []) ≡ true → length us < length ms → BracketsRead ms (fault us)
+  no_brackets : elem (next ms) (code k.LBracket ∷ []) ≡ false → BracketsRead ms (found nil ms)
+  some_brackets : {b bs : Tree} {us : List Token} → R (seq brackets (star brackets)) ms (found (pair b bs) us) → elem (next ms) (code k.LBracket ∷ []) ≡ true → length us < length ms → BracketsRead ms (found (cons b bs) us)
+  late_brackets : {us : List Token} → R (seq brackets (star brackets)) ms (fault us) → elem (next ms) (code k.LBracket ∷ []) ≡ true → length us < length ms → BracketsRead ms (fault us)
 
 brackets_read : {ms : List Token} {q : Outcome} → R (star brackets) ms q → BracketsRead ms q
 brackets_read (read_nil h) = no_brackets h
@@ -371,26 +373,26 @@ brackets_read (no_cons h r) = late_brackets (no_seq r) h (word_less h r)
 -- ---- by the rule of a longer type
 
 -- a name is no other type
-name_no_plain : {j : Token} {ms : List Token} → elem j.class ids ≡ true → elem (next ms) (k.dot ∷ []) ≡ false → R (side g.longer_plain) (j ∷ ms) (fault ms)
+name_no_plain : {j : Token} {ms : List Token} → elem j.class ids ≡ true → elem (next ms) (code k.Dot ∷ []) ≡ false → R (side g.longer_plain) (j ∷ ms) (fault ms)
 name_no_plain {j} {ms} h n =
     no_side (
-    read_right (not_in j.class (k.elementary ∷ []) ids refl h)
-    (read_right (not_in j.class (k.address ∷ []) ids refl h)
-    (read_right (not_in j.class (k.string ∷ []) ids refl h)
+    read_right (not_in j.class (code k.Elementary ∷ []) ids refl h)
+    (read_right (not_in j.class (code k.Address ∷ []) ids refl h)
+    (read_right (not_in j.class (code k.String ∷ []) ids refl h)
     (read_left h (late_seq (read_text h) (no_seq (no_word n)))))))
 
 name_read : {j : Token} {ms : List Token} (used : List Token) → elem j.class ids ≡ true → j ∷ ms ≡ used ++ ms → R (side g.name_plain) (j ∷ ms) (found (node (extent_of used) (leaf j.text)) ms)
 name_read used h e = read_side used e (read_text h)
 
 -- one name with brackets
-name_brackets : {j : Token} {ms : List Token} {o : Outcome} (used : List Token) → elem j.class ids ≡ true → j ∷ ms ≡ used ++ ms → elem (next ms) (k.dot ∷ []) ≡ false → R (seq brackets (star brackets)) ms o
+name_brackets : {j : Token} {ms : List Token} {o : Outcome} (used : List Token) → elem j.class ids ≡ true → j ∷ ms ≡ used ++ ms → elem (next ms) (code k.Dot ∷ []) ≡ false → R (seq brackets (star brackets)) ms o
     → R (rules g.longer_type) (j ∷ ms) (after left (after (pair (node (extent_of used) (leaf j.text))) o))
 name_brackets {j} {ms} {o} used h e n r =
     read_one (then_read (name_read used h e) r) (no_seq (name_no_plain h n))
     (beats_fault (after (pair (node (extent_of used) (leaf j.text))) o) ms (less_after (pair (node (extent_of used) (leaf j.text))) o ms (reads_less r)))
 
 -- one name alone
-name_alone : {j : Token} {ms : List Token} → elem j.class ids ≡ true → elem (next ms) (k.dot ∷ []) ≡ false → elem (next ms) (k.l_bracket ∷ []) ≡ false → R (rules g.longer_type) (j ∷ ms) (fault ms)
+name_alone : {j : Token} {ms : List Token} → elem j.class ids ≡ true → elem (next ms) (code k.Dot ∷ []) ≡ false → elem (next ms) (code k.LBracket ∷ []) ≡ false → R (rules g.longer_type) (j ∷ ms) (fault ms)
 name_alone {j} {ms} h n b = read_one (late_seq (read_side (j ∷ []) refl (read_text h)) (no_seq (no_seq (no_word b)))) (no_seq (name_no_plain h n)) (inr (refl, λ x. x))
 
 -- another type, where by the rule of one name nothing further is read
@@ -404,8 +406,8 @@ other_none : {ts us left_over : List Token} → R (seq (side g.name_plain) (seq 
 other_none {ts} {us} {left_over} stop p l = read_other stop (no_seq p) (beats_fault (fault us) left_over l)
 
 -- by the rule of one name: nothing, where a member follows
-stops_at_dot : {j : Token} {ms : List Token} → elem j.class ids ≡ true → elem (next ms) (k.dot ∷ []) ≡ true → R (seq (side g.name_plain) (seq brackets (star brackets))) (j ∷ ms) (fault ms)
-stops_at_dot {j} {ms} h n = late_seq (name_read (j ∷ []) h refl) (no_seq (no_seq (no_word (not_in (next ms) (k.l_bracket ∷ []) (k.dot ∷ []) refl n))))
+stops_at_dot : {j : Token} {ms : List Token} → elem j.class ids ≡ true → elem (next ms) (code k.Dot ∷ []) ≡ true → R (seq (side g.name_plain) (seq brackets (star brackets))) (j ∷ ms) (fault ms)
+stops_at_dot {j} {ms} h n = late_seq (name_read (j ∷ []) h refl) (no_seq (no_seq (no_word (not_in (next ms) (code k.LBracket ∷ []) (code k.Dot ∷ []) refl n))))
 
 -- nor where no name stands
 stops_before : {ts : List Token} → elem (next ts) ids ≡ false → R (seq (side g.name_plain) (seq brackets (star brackets))) ts (fault ts)
@@ -419,14 +421,14 @@ record Behind (n : Token) (ts us : List Token) : Type 0 where
   pub read : R NamePost (n ∷ ts) other
   pub beaten : (o : Outcome) → length (rest_of o) ≤ length us → Beats o other
 
-behind_name : {n j : Token} {ms us : List Token} → elem n.class (k.new ∷ []) ≡ true → elem j.class ids ≡ true → elem (next ms) (firsts g.after_name) ≡ false → length us < length ms → Behind n (j ∷ ms) us
+behind_name : {n j : Token} {ms us : List Token} → elem n.class (code k.New ∷ []) ≡ true → elem j.class ids ≡ true → elem (next ms) (firsts g.after_name) ≡ false → length us < length ms → Behind n (j ∷ ms) us
 behind_name {n} {j} {ms} {us} hn h e l = record {
   other = found _ ms;
   read = read_seq (read_side (n ∷ j ∷ []) refl (read_seq (read_word hn) (read_side (j ∷ []) refl (name_read (j ∷ []) h refl)))) (read_none e);
   beaten = λ o m. inl (omega arith);
 }
 
-behind_other : {n : Token} {ts us : List Token} → elem n.class (k.new ∷ []) ≡ true → elem (next ts) ids ≡ false → length us ≤ length ts → Behind n ts us
+behind_other : {n : Token} {ts us : List Token} → elem n.class (code k.New ∷ []) ≡ true → elem (next ts) ids ≡ false → length us ≤ length ts → Behind n ts us
 behind_other {n} {ts} {us} hn h l = record {
   other = fault ts;
   read = no_seq (no_side (late_seq (read_word hn) (no_side (no_side (no_text h)))));
@@ -435,8 +437,8 @@ behind_other {n} {ts} {us} hn h l = record {
 
 -- ---- the whole
 
-finish_longer : {n : Token} {ts us : List Token} {t : Tree} {o : Outcome} (wide used : List Token) → elem n.class (k.new ∷ []) ≡ true → ts ≡ wide ++ us → ts ≡ used ++ us
-    → R (rules g.longer_type) ts (found t us) → Behind n ts us → R (star (side g.suffix)) us o → elem (next us) (k.l_bracket ∷ []) ≡ false
+finish_longer : {n : Token} {ts us : List Token} {t : Tree} {o : Outcome} (wide used : List Token) → elem n.class (code k.New ∷ []) ≡ true → ts ≡ wide ++ us → ts ≡ used ++ us
+    → R (rules g.longer_type) ts (found t us) → Behind n ts us → R (star (side g.suffix)) us o → elem (next us) (code k.LBracket ∷ []) ≡ false
     → R NewPost (n ∷ ts) (after (λ l. right (node (extent_of (n ∷ wide)) (unit ⊗ node (extent_of used) t) ⊗ first_behind 1 l)) o)
 finish_longer {n} {ts} {us} {t} {o} wide used hn e₀ e r b s nb =
     let q = after_longer_read s nb in
@@ -445,11 +447,11 @@ finish_longer {n} {ts} {us} {t} {o} wide used hn e₀ e r b s nb =
     subst (λ w. R NewPost (n ∷ ts) w) (ap (after right) (twice (pair front) (first_behind 1) o) ∙ twice right (λ l. pair front (first_behind 1 l)) o)
     (read_other b.read made (b.beaten (after (pair front) (after (first_behind 1) o)) (less_after (pair front) (after (first_behind 1) o) us (reads_less q))))
 
-finish_fault : {n : Token} {ts us : List Token} → elem n.class (k.new ∷ []) ≡ true → R (rules g.longer_type) ts (fault us) → Behind n ts us → R NewPost (n ∷ ts) (fault us)
+finish_fault : {n : Token} {ts us : List Token} → elem n.class (code k.New ∷ []) ≡ true → R (rules g.longer_type) ts (fault us) → Behind n ts us → R NewPost (n ∷ ts) (fault us)
 finish_fault {n} {ts} {us} hn r b = read_other b.read (no_seq (no_side (late_seq (read_word hn) (no_side r)))) (b.beaten (fault us) (omega arith))
 
-finish_name : {n j : Token} {ms : List Token} {o : Outcome} (wide used own : List Token) → elem n.class (k.new ∷ []) ≡ true → elem j.class ids ≡ true → j ∷ ms ≡ wide ++ ms → j ∷ ms ≡ used ++ ms → j ∷ ms ≡ own ++ ms
-    → R (star (side g.suffix)) ms o → elem (next ms) (k.l_bracket ∷ []) ≡ false → elem (next ms) (k.dot ∷ []) ≡ false
+finish_name : {n j : Token} {ms : List Token} {o : Outcome} (wide used own : List Token) → elem n.class (code k.New ∷ []) ≡ true → elem j.class ids ≡ true → j ∷ ms ≡ wide ++ ms → j ∷ ms ≡ used ++ ms → j ∷ ms ≡ own ++ ms
+    → R (star (side g.suffix)) ms o → elem (next ms) (code k.LBracket ∷ []) ≡ false → elem (next ms) (code k.Dot ∷ []) ≡ false
     → R NewPost (n ∷ j ∷ ms) (after (λ l. left (node (extent_of (n ∷ wide)) (unit ⊗ node (extent_of used) (node (extent_of own) (leaf j.text))) ⊗ first_behind 2 l)) o)
 finish_name {n} {j} {ms} {o} wide used own hn h e₀ e e₂ s nb nd =
     let q = after_name_read s nb nd in
@@ -474,20 +476,20 @@ brackets_tree x y z u b bs ws = ap (λ l. right (node x (unit ⊗ node y (left (
 longer_tree : (x y z : Extent) (t d : Tree) (ws : List Tree) → IsLonger t → right (node x (unit ⊗ node y (right (node z (longer_plain_tree t) ⊗ d))) ⊗ first_behind 1 (list_tree ws)) ≡ new_tree x (node y (node z t ⊗ d)) ws
 longer_tree x y z t d ws h = ap (λ l. right (node x (unit ⊗ node y (right (node z (longer_plain_tree t) ⊗ d))) ⊗ l)) (first_behind_list 1 ws) ∙ sym (h x y z d ws)
 
-new_found : {n : Token} {ts us : List Token} {t : Tree} {o : Outcome} (wide : List Token) → elem n.class (k.new ∷ []) ≡ true → ts ≡ wide ++ us → R (side g.type) ts (found t us) → R (star (side g.suffix)) us o → NewRead n ts (extent_of (n ∷ wide)) t o
+new_found : {n : Token} {ts us : List Token} {t : Tree} {o : Outcome} (wide : List Token) → elem n.class (code k.New ∷ []) ≡ true → ts ≡ wide ++ us → R (side g.type) ts (found t us) → R (star (side g.suffix)) us o → NewRead n ts (extent_of (n ∷ wide)) t o
 new_found {n} {us} {o} wide hn e₀ (read_side used e (read_seq (read_side own e₂ r) d)) s = by_plain wide used own (plain_read r) (brackets_read d) d hn e₀ e e₂ s (star_end d)
   where
-    by_plain : {n : Token} {ts ms us : List Token} {p d : Tree} {o : Outcome} (wide used own : List Token) → PlainRead ts (found p ms) → BracketsRead ms (found d us) → R (star brackets) ms (found d us) → elem n.class (k.new ∷ []) ≡ true → ts ≡ wide ++ us → ts ≡ used ++ us → ts ≡ own ++ ms
-        → R (star (side g.suffix)) us o → elem (next us) (k.l_bracket ∷ []) ≡ false → NewRead n ts (extent_of (n ∷ wide)) (node (extent_of used) (node (extent_of own) p ⊗ d)) o
+    by_plain : {n : Token} {ts ms us : List Token} {p d : Tree} {o : Outcome} (wide used own : List Token) → PlainRead ts (found p ms) → BracketsRead ms (found d us) → R (star brackets) ms (found d us) → elem n.class (code k.New ∷ []) ≡ true → ts ≡ wide ++ us → ts ≡ used ++ us → ts ≡ own ++ ms
+        → R (star (side g.suffix)) us o → elem (next us) (code k.LBracket ∷ []) ≡ false → NewRead n ts (extent_of (n ∷ wide)) (node (extent_of used) (node (extent_of own) p ⊗ d)) o
     by_plain {n} wide used own (is_bare {j} h nd) (no_brackets nb) q hn e₀ e e₂ s end =
         (_, name_tree (extent_of (n ∷ wide)) (extent_of used) (extent_of own) j.text, finish_name wide used own hn h e₀ e e₂ s nb nd)
     by_plain {n} wide used own (is_bare {j} {ms} h nd) (some_brackets {b} {bs} r hb l) q hn e₀ e e₂ s end =
-        (_, brackets_tree (extent_of (n ∷ wide)) (extent_of used) (extent_of own) j.text b bs, finish_longer wide used hn e₀ e (name_brackets own h e₂ nd r) (behind_name hn h (not_in (next ms) (firsts g.after_name) (k.l_bracket ∷ []) refl hb) l) s end)
+        (_, brackets_tree (extent_of (n ∷ wide)) (extent_of used) (extent_of own) j.text b bs, finish_longer wide used hn e₀ e (name_brackets own h e₂ nd r) (behind_name hn h (not_in (next ms) (firsts g.after_name) (code k.LBracket ∷ []) refl hb) l) s end)
     by_plain {n} {us} {p} {d} wide used own (is_dotted {j} {ms} h nd r l f) c q hn e₀ e e₂ s end = (
       _,
       (λ ws. longer_tree (extent_of (n ∷ wide)) (extent_of used) (extent_of own) p d ws (f p _ refl)),
       finish_longer wide used hn e₀ e (other_longer (stops_at_dot h nd) (read_side own e₂ r) q (omega arith))
-          (behind_name hn h (not_in (next ms) (firsts g.after_name) (k.dot ∷ []) refl nd) (let m = reads_less q in omega arith)) s end,
+          (behind_name hn h (not_in (next ms) (firsts g.after_name) (code k.Dot ∷ []) refl nd) (let m = reads_less q in omega arith)) s end,
     )
     by_plain {n} {ts} {us} {p} {d} wide used own (is_other h r f) c q hn e₀ e e₂ s end = (
       _,
@@ -496,34 +498,34 @@ new_found {n} {us} {o} wide hn e₀ (read_side used e (read_seq (read_side own e
           (behind_other hn h (let m = reads_less q in let m₂ = reads_less r in omega arith)) s end,
     )
 
-new_fault : {n : Token} {ts us : List Token} → elem n.class (k.new ∷ []) ≡ true → R (side g.type) ts (fault us) → R NewPost (n ∷ ts) (fault us)
+new_fault : {n : Token} {ts us : List Token} → elem n.class (code k.New ∷ []) ≡ true → R (side g.type) ts (fault us) → R NewPost (n ∷ ts) (fault us)
 new_fault hn (no_side (late_seq (read_side own e₂ r) d)) = by_plain own (plain_read r) (brackets_read d) d hn e₂
   where
-    by_plain : {n : Token} {ts ms us : List Token} {p : Tree} (own : List Token) → PlainRead ts (found p ms) → BracketsRead ms (fault us) → R (star brackets) ms (fault us) → elem n.class (k.new ∷ []) ≡ true → ts ≡ own ++ ms → R NewPost (n ∷ ts) (fault us)
-    by_plain own (is_bare {j} {ms} h nd) (late_brackets r hb l) q hn e₂ = finish_fault hn (name_brackets own h e₂ nd r) (behind_name hn h (not_in (next ms) (firsts g.after_name) (k.l_bracket ∷ []) refl hb) l)
-    by_plain own (is_dotted {ms} h nd r l f) c q hn e₂ = finish_fault hn (other_longer (stops_at_dot h nd) (read_side own e₂ r) q (omega arith)) (behind_name hn h (not_in (next ms) (firsts g.after_name) (k.dot ∷ []) refl nd) (let m = reads_less q in omega arith))
+    by_plain : {n : Token} {ts ms us : List Token} {p : Tree} (own : List Token) → PlainRead ts (found p ms) → BracketsRead ms (fault us) → R (star brackets) ms (fault us) → elem n.class (code k.New ∷ []) ≡ true → ts ≡ own ++ ms → R NewPost (n ∷ ts) (fault us)
+    by_plain own (is_bare {j} {ms} h nd) (late_brackets r hb l) q hn e₂ = finish_fault hn (name_brackets own h e₂ nd r) (behind_name hn h (not_in (next ms) (firsts g.after_name) (code k.LBracket ∷ []) refl hb) l)
+    by_plain own (is_dotted {ms} h nd r l f) c q hn e₂ = finish_fault hn (other_longer (stops_at_dot h nd) (read_side own e₂ r) q (omega arith)) (behind_name hn h (not_in (next ms) (firsts g.after_name) (code k.Dot ∷ []) refl nd) (let m = reads_less q in omega arith))
     by_plain own (is_other h r f) c q hn e₂ = finish_fault hn (other_longer (stops_before h) (read_side own e₂ r) q (reads_less r)) (behind_other hn h (let m = reads_less q in let m₂ = reads_less r in omega arith))
 new_fault hn (no_side (no_seq (no_side r))) = by_plain (plain_read r) hn
   where
-    by_plain : {n : Token} {ts us : List Token} → PlainRead ts (fault us) → elem n.class (k.new ∷ []) ≡ true → R NewPost (n ∷ ts) (fault us)
-    by_plain (is_dotted {ms} h nd r l f) hn = finish_fault hn (other_none (stops_at_dot h nd) (no_side r) (omega arith)) (behind_name hn h (not_in (next ms) (firsts g.after_name) (k.dot ∷ []) refl nd) (omega arith))
+    by_plain : {n : Token} {ts us : List Token} → PlainRead ts (fault us) → elem n.class (code k.New ∷ []) ≡ true → R NewPost (n ∷ ts) (fault us)
+    by_plain (is_dotted {ms} h nd r l f) hn = finish_fault hn (other_none (stops_at_dot h nd) (no_side r) (omega arith)) (behind_name hn h (not_in (next ms) (firsts g.after_name) (code k.Dot ∷ []) refl nd) (omega arith))
     by_plain (is_other h r f) hn = finish_fault hn (other_none (stops_before h) (no_side r) (reads_less r)) (behind_other hn h (reads_less r))
 
 -- ---- for a parser: a post from an atom, or from `new` with a type, and suffixes
 
-pub read_new : {n : Token} {ts us vs : List Token} {t : Tree} (wide : List Token) (ws : List Tree) → elem n.class (k.new ∷ []) ≡ true → ts ≡ wide ++ us → Reads rules nulls firsts (side g.type) ts (found t us) → Reads rules nulls firsts (star (side g.suffix)) us (found (list_tree ws) vs)
+pub read_new : {n : Token} {ts us vs : List Token} {t : Tree} (wide : List Token) (ws : List Tree) → elem n.class (code k.New ∷ []) ≡ true → ts ≡ wide ++ us → Reads rules nulls firsts (side g.type) ts (found t us) → Reads rules nulls firsts (star (side g.suffix)) us (found (list_tree ws) vs)
     → Reads rules nulls firsts (rules g.post) (n ∷ ts) (found (atom_and_suffixes (node (extent_of (n ∷ wide)) (unit ⊗ t)) ws) vs)
 unfolding atom_and_suffixes
 read_new {n} {ts} {us} {vs} {t} wide ws hn e r s =
     let m = new_found wide hn e r s in
-    subst (λ u. R (rules g.post) (n ∷ ts) (found (right u) vs)) (m.1 ws) (read_right (not_in n.class (firsts g.atom) (k.new ∷ []) refl hn) m.2)
+    subst (λ u. R (rules g.post) (n ∷ ts) (found (right u) vs)) (m.1 ws) (read_right (not_in n.class (firsts g.atom) (code k.New ∷ []) refl hn) m.2)
 
-pub late_new : {n : Token} {ts us vs : List Token} {t : Tree} (wide : List Token) → elem n.class (k.new ∷ []) ≡ true → ts ≡ wide ++ us → Reads rules nulls firsts (side g.type) ts (found t us) → Reads rules nulls firsts (star (side g.suffix)) us (fault vs)
+pub late_new : {n : Token} {ts us vs : List Token} {t : Tree} (wide : List Token) → elem n.class (code k.New ∷ []) ≡ true → ts ≡ wide ++ us → Reads rules nulls firsts (side g.type) ts (found t us) → Reads rules nulls firsts (star (side g.suffix)) us (fault vs)
     → Reads rules nulls firsts (rules g.post) (n ∷ ts) (fault vs)
-late_new {n} wide hn e r s = read_right (not_in n.class (firsts g.atom) (k.new ∷ []) refl hn) (new_found wide hn e r s).2
+late_new {n} wide hn e r s = read_right (not_in n.class (firsts g.atom) (code k.New ∷ []) refl hn) (new_found wide hn e r s).2
 
-pub no_new : {n : Token} {ts us : List Token} → elem n.class (k.new ∷ []) ≡ true → Reads rules nulls firsts (side g.type) ts (fault us) → Reads rules nulls firsts (rules g.post) (n ∷ ts) (fault us)
-no_new {n} hn r = read_right (not_in n.class (firsts g.atom) (k.new ∷ []) refl hn) (new_fault hn r)
+pub no_new : {n : Token} {ts us : List Token} → elem n.class (code k.New ∷ []) ≡ true → Reads rules nulls firsts (side g.type) ts (fault us) → Reads rules nulls firsts (rules g.post) (n ∷ ts) (fault us)
+no_new {n} hn r = read_right (not_in n.class (firsts g.atom) (code k.New ∷ []) refl hn) (new_fault hn r)
 
 -- an atom that was read begins with a token of its own
 atom_begins : {ts us : List Token} {t : Tree} → R (side g.atom) ts (found t us) → elem (next ts) (firsts g.atom) ≡ true
@@ -553,7 +555,7 @@ read_atom {ts} {vs} ws r s = subst (λ u. R (rules g.post) ts (found u vs)) (sym
 pub late_atom : {ts us vs : List Token} {t : Tree} → Reads rules nulls firsts (side g.atom) ts (found t us) → Reads rules nulls firsts (star (side g.suffix)) us (fault vs) → Reads rules nulls firsts (rules g.post) ts (fault vs)
 late_atom r s = read_left (atom_begins r) (late_seq r s)
 
-pub no_atom : {ts us : List Token} → elem (next ts) (k.new ∷ []) ≡ false → Reads rules nulls firsts (side g.atom) ts (fault us) → Reads rules nulls firsts (rules g.post) ts (fault us)
+pub no_atom : {ts us : List Token} → elem (next ts) (code k.New ∷ []) ≡ false → Reads rules nulls firsts (side g.atom) ts (fault us) → Reads rules nulls firsts (rules g.post) ts (fault us)
 no_atom {ts} {us} hn r = by_test (elem (next ts) (firsts g.atom)) refl
   where
     by_test : (b : Bool) → elem (next ts) (firsts g.atom) ≡ b → R (rules g.post) ts (fault us)

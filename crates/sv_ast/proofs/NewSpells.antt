@@ -2,7 +2,7 @@
 use Rattle.std.proofs.Common.{◌≡◌, ℕ, zero, suc, List, [], ◌∷◌, refl, ap}
 use Rattle.sv_grammar.specs.Grammar.{Extent, Tree, cons}
 use Rattle.sv_grammar.specs.Named.{Spells, unit_spells, none_spells, nil_spells, pair_spells, cons_spells, left_spells, right_spells, some_spells, node_spells}
-use Rattle.sv_grammar.specs.Reading.{list_tree}
+use Rattle.sv_grammar.specs.ListTrees.{list_tree}
 use Rattle.sv_ast.specs.ExprTrees.{behind, suffix_behind, suffixes_behind, longer_plain_tree, new_tree, atom_and_suffixes}
 
 -- each of the first trees is that of the second with names in place of texts

@@ -4,7 +4,7 @@ use Rattle.std.specs.Option.{option_map}
 use Rattle.sv_text.specs.declared.span.Span.{Span}
 use Rattle.sv_text.specs.declared.place.Place.{Place}
 use Rattle.sv_grammar.specs.Grammar.{Tree, unit, left, right, node}
-use Rattle.sv_grammar.specs.Reading.{list_tree}
+use Rattle.sv_grammar.specs.ListTrees.{list_tree}
 use Rattle.sv_ast.specs.Trees.{extent, ◌⊗◌, nth, last, optional}
 use Rattle.sv_ast.specs.ExprTrees.{expr_tree}
 use Rattle.sv_ast.specs.SimpleTrees.{note_tree, action_tree, simple_tree}
@@ -16,6 +16,7 @@ use Rattle.sv_ast.specs.declared.stmt.ForStart.{ForStart}
 use Rattle.sv_ast.specs.declared.stmt.Block.{Block, roll-Block}
 use Rattle.sv_ast.specs.declared.stmt.Stmt.{Stmt, roll-Stmt}
 use Rattle.sv_ast.specs.declared.stmt.Body.{Body, roll-Body}
+use Rattle.sv_ast.specs.declared.stmt.Keyword.{Keyword}
 use Rattle.sv_ast.specs.declared.stmt.If.{If, roll-If}
 use Rattle.sv_ast.specs.declared.stmt.ElseIf.{ElseIf, roll-ElseIf}
 use Rattle.sv_ast.specs.declared.stmt.Else.{Else, roll-Else}
@@ -27,7 +28,7 @@ use Rattle.sv_ast.specs.declared.stmt.BodyKind.{BodyKind}
 use Rattle.sv_ast.specs.declared.stmt.BodyKind.TheVariants as body_kinds
 use Rattle.sv_ast.specs.declared.stmt.BodyKind.TheOpen.{BodyKind-F, StmtKind-F, Block-F, Body-F, Else-F, ElseIf-F, For-F, If-F, Stmt-F, While-F}
 use Rattle.sv_ast.specs.declared.stmt.BodyKind.TheFolds.{fold-roll-BodyKind, fold-roll-StmtKind, fold-roll-Block, fold-roll-Body, fold-roll-Else, fold-roll-ElseIf, fold-roll-For, fold-roll-If, fold-roll-Stmt, fold-roll-While}
-use Rattle.sv_ast.specs.StmtTrees.{Of, LastBranch, Branch, branch_extent, branches_tree, for_start_tree, body_kind_step, stmt_kind_step, block_step, body_step, else_step, else_if_step, for_step, if_step, stmt_step, while_step, body_kind_tree, stmt_kind_tree, block_tree, body_tree, else_tree, else_if_tree, for_tree, if_tree, stmt_tree, while_tree}
+use Rattle.sv_ast.specs.StmtTrees.{keyword_tree, Of, LastBranch, Branch, branch_extent, branches_tree, for_start_tree, body_kind_step, stmt_kind_step, block_step, body_step, else_step, else_if_step, for_step, if_step, stmt_step, while_step, body_kind_tree, stmt_kind_tree, block_tree, body_tree, else_tree, else_if_tree, for_tree, if_tree, stmt_tree, while_tree}
 
 -- what holds of any steps, of those by which the trees are made
 with_steps :
@@ -83,13 +84,13 @@ pub else_is : (body : Body) (at : ℕ) (place : Place) (to : ℕ) → else_tree 
 unfolding else_tree body_tree
 else_is body at place to = ap (λ f. f to) (with_steps (fold-roll-Else Tree Tree Tree Tree LastBranch Branch Tree Tree Tree Tree) (record { body = body; at = at; place = place }))
 
-pub while_is : (notes : List Note) (condition : Expr) (body : Body) (span : Span) (place : Place) → while_tree (roll-While (record { notes = notes; condition = condition; body = body; span = span; place = place })) ≡ node (extent span place) (list_tree (map note_tree notes) ⊗ unit ⊗ unit ⊗ expr_tree condition ⊗ unit ⊗ body_tree body)
+pub while_is : (notes : List Note) (keyword : Keyword) (condition : Expr) (body : Body) (span : Span) (place : Place) → while_tree (roll-While (record { notes = notes; keyword = keyword; condition = condition; body = body; span = span; place = place })) ≡ node (extent span place) (list_tree (map note_tree notes) ⊗ keyword_tree keyword ⊗ unit ⊗ expr_tree condition ⊗ unit ⊗ body_tree body)
 unfolding while_tree body_tree
-while_is notes condition body span place = with_steps (fold-roll-While Tree Tree Tree Tree LastBranch Branch Tree Tree Tree Tree) (record { notes = notes; condition = condition; body = body; span = span; place = place })
+while_is notes keyword condition body span place = with_steps (fold-roll-While Tree Tree Tree Tree LastBranch Branch Tree Tree Tree Tree) (record { notes = notes; keyword = keyword; condition = condition; body = body; span = span; place = place })
 
-pub for_is : (notes : List Note) (start : Option ForStart) (condition : Option Expr) (step : Option Action) (body : Body) (span : Span) (place : Place) → for_tree (roll-For (record { notes = notes; start = start; condition = condition; step = step; body = body; span = span; place = place })) ≡ node (extent span place) (list_tree (map note_tree notes) ⊗ unit ⊗ unit ⊗ optional for_start_tree start ⊗ unit ⊗ optional expr_tree condition ⊗ unit ⊗ optional action_tree step ⊗ unit ⊗ body_tree body)
+pub for_is : (notes : List Note) (keyword : Keyword) (start : Option ForStart) (condition : Option Expr) (step : Option Action) (body : Body) (span : Span) (place : Place) → for_tree (roll-For (record { notes = notes; keyword = keyword; start = start; condition = condition; step = step; body = body; span = span; place = place })) ≡ node (extent span place) (list_tree (map note_tree notes) ⊗ keyword_tree keyword ⊗ unit ⊗ optional for_start_tree start ⊗ unit ⊗ optional expr_tree condition ⊗ unit ⊗ optional action_tree step ⊗ unit ⊗ body_tree body)
 unfolding for_tree body_tree
-for_is notes start condition step body span place = with_steps (fold-roll-For Tree Tree Tree Tree LastBranch Branch Tree Tree Tree Tree) (record { notes = notes; start = start; condition = condition; step = step; body = body; span = span; place = place })
+for_is notes keyword start condition step body span place = with_steps (fold-roll-For Tree Tree Tree Tree LastBranch Branch Tree Tree Tree Tree) (record { notes = notes; keyword = keyword; start = start; condition = condition; step = step; body = body; span = span; place = place })
 
 pub stmt_block_is : (b : Block) → stmt_kind_tree (stmt_kinds.Block b) ≡ nth 0 (block_tree b)
 unfolding stmt_kind_tree block_tree

@@ -2,7 +2,9 @@
 use Rattle.std.specs.Prelude.{ℕ, Bool, List, [], ◌∷◌, ◌++◌, if◌then◌else◌, codes, map, nat_eq}
 use Rattle.std.specs.List.{list_any}
 use Rattle.std.specs.Cmp.Lexicographic.{pointwise}
-use Rattle.sv_ast.specs.Terminals.{Spelling, words, marks, id, elementary, other}
+use Rattle.sv_ast.specs.Terminals.{Spelling, words, marks}
+use Rattle.sv_ast.specs.declared.class.Class.{Class}
+use Rattle.sv_ast.specs.declared.class.Class.TheVariants as k
 
 -- the texts are the same
 abbrev pub is_same : List ℕ → List ℕ → Bool
@@ -13,7 +15,7 @@ abbrev pub is_one_of : List (List ℕ) → List ℕ → Bool
 is_one_of texts text = list_any (is_same text) texts
 
 -- the class of the text by a table, and another class where the table does not have it
-abbrev pub class_in : List Spelling → List ℕ → ℕ → ℕ
+abbrev pub class_in : List Spelling → List ℕ → Class → Class
 class_in [] text otherwise = otherwise
 class_in (s ∷ ss) text otherwise = if is_same text s.spelled then s.class else class_in ss text otherwise
 
@@ -41,10 +43,10 @@ reserved_words =
     codes "switch" ∷ codes "typedef" ∷ codes "typeof" ∷ codes "var" ∷ []
 
 -- a word of the grammar has its own class, and a word that is none of these is a name
-unfoldable pub class_of_word : List ℕ → ℕ
+unfoldable pub class_of_word : List ℕ → Class
 class_of_word text =
-    class_in words text (if is_one_of elementary_names text then elementary else (if is_one_of reserved_words text then other else id))
+    class_in words text (if is_one_of elementary_names text then k.Elementary else (if is_one_of reserved_words text then k.Other else k.Id))
 
 -- punctuation of the grammar has its own class
-unfoldable pub class_of_mark : List ℕ → ℕ
-class_of_mark text = class_in marks text other
+unfoldable pub class_of_mark : List ℕ → Class
+class_of_mark text = class_in marks text k.Other

@@ -1,7 +1,7 @@
 -- Believed: the trees of contracts and of what is declared in them. Hold it against the types of `src/contract.rt`, and docs/grammar.md.
 use Rattle.std.specs.Prelude.{List, [], ◌∷◌, map, Option, Some, None}
 use Rattle.sv_grammar.specs.Grammar.{Tree, unit, name, none, some, node}
-use Rattle.sv_grammar.specs.Reading.{list_tree}
+use Rattle.sv_grammar.specs.ListTrees.{list_tree}
 use Rattle.sv_ast.specs.Trees.{extent, ◌⊗◌, nth, last, optional, optional_word, commas, optional_commas}
 use Rattle.sv_ast.specs.ExprTrees.{expr_tree, type_tree, args_tree}
 use Rattle.sv_ast.specs.SimpleTrees.{note_tree, location_tree}

@@ -1,7 +1,7 @@
 -- Believed: the trees of expressions and types. Hold it against the types of `src/expr.rt`, `src/post.rt` and `src/types.rt`, and docs/grammar.md.
 use Rattle.std.specs.Prelude.{ℕ, zero, suc, List, [], ◌∷◌, map}
 use Rattle.sv_grammar.specs.Grammar.{Extent, Tree, unit, name, pair, left, right, none, some, nil, cons, node}
-use Rattle.sv_grammar.specs.Reading.{list_tree}
+use Rattle.sv_grammar.specs.ListTrees.{list_tree}
 use Rattle.sv_ast.specs.Trees.{extent, ◌⊗◌, nth, last, optional, optional_word, optional_commas}
 use Rattle.sv_ast.specs.declared.expr.SameOp.{SameOp}
 use Rattle.sv_ast.specs.declared.expr.SameOp.TheVariants as same_ops

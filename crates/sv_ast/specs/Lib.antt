@@ -1,5 +1,6 @@
 pub mod Terminals
 pub mod Classes
+pub mod ClassTables
 pub mod Syntax
 pub mod Firsts
 pub mod Trees

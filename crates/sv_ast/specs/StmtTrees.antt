@@ -2,7 +2,7 @@
 use Rattle.std.specs.Prelude.{ℕ, List, [], ◌∷◌, map, Option, Some, None}
 use Rattle.sv_text.specs.declared.place.Place.{Place}
 use Rattle.sv_grammar.specs.Grammar.{Extent, Tree, unit, left, right, none, some, node}
-use Rattle.sv_grammar.specs.Reading.{list_tree}
+use Rattle.sv_grammar.specs.ListTrees.{list_tree}
 use Rattle.sv_ast.specs.Trees.{extent, ◌⊗◌, nth, last, optional}
 use Rattle.sv_ast.specs.ExprTrees.{expr_tree}
 use Rattle.sv_ast.specs.SimpleTrees.{note_tree, decl_tree, action_tree, simple_tree}
@@ -16,6 +16,7 @@ use Rattle.sv_ast.specs.declared.stmt.Else.{Else}
 use Rattle.sv_ast.specs.declared.stmt.ElseIf.{ElseIf}
 use Rattle.sv_ast.specs.declared.stmt.For.{For}
 use Rattle.sv_ast.specs.declared.stmt.If.{If}
+use Rattle.sv_ast.specs.declared.stmt.Keyword.{Keyword}
 use Rattle.sv_ast.specs.declared.stmt.Stmt.{Stmt}
 use Rattle.sv_ast.specs.declared.stmt.While.{While}
 use Rattle.sv_ast.specs.declared.stmt.BodyKind.TheOpen.{BodyKind-F, StmtKind-F, Block-F, Body-F, Else-F, ElseIf-F, For-F, If-F, Stmt-F, While-F}
@@ -79,10 +80,14 @@ else_if_step b to rest =
 abbrev pub else_step : Of Else-F → LastBranch
 else_step b to = node (branch_extent b.at b.place to) (unit ⊗ right b.body)
 
+-- the word by which a loop begins, where it lies
+abbrev pub keyword_tree : Keyword → Tree
+keyword_tree k = node (extent k.span k.place) unit
+
 abbrev pub while_step : Of While-F → Tree
 while_step s =
     node (extent s.span s.place)
-    (list_tree (map note_tree s.notes) ⊗ unit ⊗ unit ⊗ expr_tree s.condition ⊗ unit ⊗ s.body)
+    (list_tree (map note_tree s.notes) ⊗ keyword_tree s.keyword ⊗ unit ⊗ expr_tree s.condition ⊗ unit ⊗ s.body)
 
 abbrev pub for_start_tree : ForStart → Tree
 for_start_tree (for_start.Decl d) = nth 0 (decl_tree d)
@@ -91,7 +96,7 @@ for_start_tree (for_start.Action a) = last 1 (action_tree a)
 abbrev pub for_step : Of For-F → Tree
 for_step s =
     node (extent s.span s.place)
-    (list_tree (map note_tree s.notes) ⊗ unit ⊗ unit ⊗ optional for_start_tree s.start ⊗ unit
+    (list_tree (map note_tree s.notes) ⊗ keyword_tree s.keyword ⊗ unit ⊗ optional for_start_tree s.start ⊗ unit
     ⊗ optional expr_tree s.condition ⊗ unit ⊗ optional action_tree s.step ⊗ unit ⊗ s.body)
 
 -- ---- the trees

@@ -4,7 +4,7 @@ use Rattle.sv_text.specs.declared.span.Span.{Span}
 use Rattle.sv_text.specs.declared.place.Place.{Place}
 use Rattle.sv_grammar.specs.Grammar.{Extent, Token, Tree, unit, pair, left, right, none, some, Derives, side}
 use Rattle.sv_grammar.specs.Named.{Spells}
-use Rattle.sv_grammar.specs.Reading.{list_tree}
+use Rattle.sv_grammar.specs.ListTrees.{list_tree}
 use Rattle.sv_ast.specs.Syntax.{Side, rules}
 
 -- The grammar derives the tokens from the side by the tree, with names in place of texts.

@@ -1,7 +1,7 @@
 -- Believed: the trees of declarations and of a whole text. Hold it against the types of `src/unit.rt`, and docs/grammar.md.
 use Rattle.std.specs.Prelude.{map}
 use Rattle.sv_grammar.specs.Grammar.{Tree, unit, name, node}
-use Rattle.sv_grammar.specs.Reading.{list_tree}
+use Rattle.sv_grammar.specs.ListTrees.{list_tree}
 use Rattle.sv_ast.specs.Trees.{extent, ◌⊗◌, nth, last}
 use Rattle.sv_ast.specs.ExprTrees.{expr_tree, type_tree}
 use Rattle.sv_ast.specs.ContractTrees.{contract_tree}

@@ -6,7 +6,7 @@ use sv_text::{Place, Span};
 #[cycle(expressions)]
 #[derive(Drop)]
 pub struct Expr {
-    pub first: Or,
+    pub first: Boxed<Or>,
     pub arms: Option<Arms>,
     pub span: Span,
     pub place: Place,

@@ -6,6 +6,7 @@
 //! Read first: `specs/Syntax.antt`, then `specs/Trees.antt`.
 #![tactic(auto)]
 
+mod class;
 mod contract;
 mod expr;
 pub mod laws;
@@ -16,6 +17,7 @@ mod stmt;
 mod types;
 mod unit;
 
+pub use class::{Class, class_of_mark, class_of_word, words};
 pub use contract::{
     Base, Bases, Contract, ContractKind, Ctor, Function, Head, HeadKind, Modifier, ModifierWord,
     Over, Param, Params, Part, PartKind, Special, VarWord, VarWordKind, Variable, VariableWord,
@@ -32,6 +34,8 @@ pub use simple::{
     Action, ActionKind, AssignOp, AssignOpKind, Assignment, Decl, Return, Returned, Simple,
     SimpleKind, Slot, SlotKind, Tuple,
 };
-pub use stmt::{Block, Body, BodyKind, Else, ElseIf, For, ForStart, If, Stmt, StmtKind, While};
+pub use stmt::{
+    Block, Body, BodyKind, Else, ElseIf, For, ForStart, If, Keyword, Stmt, StmtKind, While,
+};
 pub use types::{Dimension, Plain, PlainKind, TypeExpr, Where, WhereKind};
 pub use unit::{Enum, ErPar, Error, EvPar, Event, Field, FileConst, Struct, Unit, UnitItem};

@@ -90,11 +90,19 @@ pub struct Else {
     pub place: Place,
 }
 
+/// The word by which a loop begins, with its bytes and its place: before it there may be annotations.
+#[derive(Clone, Copy)]
+pub struct Keyword {
+    pub span: Span,
+    pub place: Place,
+}
+
 /// A loop with a condition, as `while (a) { .. }`.
 #[cycle(statements)]
 #[derive(Drop)]
 pub struct While {
     pub notes: Items<Note>,
+    pub keyword: Keyword,
     pub condition: Expr,
     pub body: Body,
     pub span: Span,
@@ -106,6 +114,7 @@ pub struct While {
 #[derive(Drop)]
 pub struct For {
     pub notes: Items<Note>,
+    pub keyword: Keyword,
     pub start: Option<ForStart>,
     pub condition: Option<Expr>,
     pub step: Option<Action>,

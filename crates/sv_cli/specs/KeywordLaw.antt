@@ -2,7 +2,8 @@
 use Rattle.std.specs.Prelude.{◌≡◌, ◌==◌, ◌||◌, ◌&&◌, ℕ, Bool, true, not, nat_lt, List, [], ◌∷◌, ◌++◌, codes, length, map}
 use Rattle.std.specs.List.{list_all}
 use Rattle.sv_ast.specs.Classes.{class_of_word, elementary_names, is_one_of, reserved_words}
-use Rattle.sv_ast.specs.Terminals.{id, words}
+use Rattle.sv_ast.specs.Terminals.{code, words}
+use Rattle.sv_ast.specs.declared.class.Class.TheVariants as k
 use Rattle.sv_first_form.specs.FirstForm.{reserved}
 use Rattle.sv_lex.specs.Bytes.{is_letter}
 use Rattle.sv_lex.specs.Limits.{left_out_words}
@@ -13,7 +14,7 @@ given_words = codes "assert" ∷ codes "block" ∷ codes "msg" ∷ codes "pragma
 
 -- a word that is no name in the grammar, or is left out, or is given
 abbrev pub is_taken : List ℕ → Bool
-is_taken word = not (class_of_word word == id) || (is_one_of left_out_words word || is_one_of given_words word)
+is_taken word = not (code (class_of_word word) == code k.Id) || (is_one_of left_out_words word || is_one_of given_words word)
 
 -- every word that is taken
 abbrev pub taken_words : List (List ℕ)

@@ -2,7 +2,8 @@
 use Rattle.std.proofs.Common.{◌≡◌, ℕ, Bool, true, false, List, [], ◌∷◌, ◌++◌, refl, sym, ap, ◌∙◌, map}
 use Rattle.std.proofs.lemmas.List.{append-nil}
 use Rattle.sv_grammar.specs.Grammar.{Token, Part, star, seq, word, Tree, unit, pair, nil, cons, elem}
-use Rattle.sv_grammar.specs.Reading.{Outcome, found, fault, first, next, Reads, read_seq, late_seq, read_nil, read_cons, late_cons, no_cons, append_trees, list_tree, after_all, Loops}
+use Rattle.sv_grammar.specs.Reading.{Outcome, found, fault, first, next, Reads, read_seq, late_seq, read_nil, read_cons, late_cons, no_cons, after_all, Loops}
+use Rattle.sv_grammar.specs.ListTrees.{append_trees, list_tree}
 
 append_push : (xs : List Tree) (t u : Tree) → append_trees (xs ++ t ∷ []) u ≡ append_trees xs (cons t u)
 append_push [] t u = refl

@@ -1,4 +1,5 @@
 pub mod Grammar
+pub mod ListTrees
 pub mod Reach
 pub mod Named
 pub mod Reading

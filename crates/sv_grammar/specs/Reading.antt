@@ -1,5 +1,6 @@
 -- Serves the proof: how tokens are read, a token ahead, and the tests under which this is exact.
 use Rattle.std.specs.Prelude.{◌≡◌, ℕ, zero, suc, ◌<◌, Bool, true, false, not, ◌&&◌, ◌||◌, cond, List, [], ◌∷◌, ◌++◌, length, ◌⊎◌}
+use Rattle.sv_grammar.specs.ListTrees.{append_trees}
 use Rattle.sv_grammar.specs.Grammar.{Token, Part, nothing, word, text, seq, alt, opt, star, both, side, Tree, unit, leaf, pair, left, right, none, some, nil, cons, node, Derives, Begins, elem, extent_of}
 
 -- ---- what is to be shown of reading
@@ -287,15 +288,6 @@ pub data Reads {S : Type 0} (rules : S → Part S) (empty : S → Bool) (f : S �
       → Reads rules empty f (side s) ts (fault rest)
 
 -- ---- loops
-
--- the trees of several parts in a row, and then a tree
-abbrev pub append_trees : List Tree → Tree → Tree
-append_trees [] t = t
-append_trees (x ∷ xs) t = cons x (append_trees xs t)
-
--- the trees of several parts in a row
-abbrev pub list_tree : List Tree → Tree
-list_tree xs = append_trees xs nil
 
 -- the outcome with the trees of several parts in front of its tree
 abbrev pub after_all : List Tree → Outcome → Outcome

@@ -1,53 +1,79 @@
-//! Annotation lines at a position.
-#![tactic(auto, using(sv_parse_expr::proofs::Reading::reading))]
+//! Annotation lines behind a cursor.
+#![tactic(auto, using(sv_read::proofs::Reading::fails_memory))]
 
-ghost use Rattle.std.specs.Prelude.{◌≡◌, ◌<◌, ◌≤◌, length, map, IfOk};
+ghost use Rattle.std.specs.Prelude.{ℕ, false, map, refl};
 ghost use Rattle.sv_grammar.specs.Grammar.{side, star};
-ghost use Rattle.sv_grammar.specs.Reading.{list_tree};
+ghost use Rattle.sv_grammar.specs.ListTrees.{list_tree};
 ghost use Rattle.sv_ast.specs.Syntax as g;
+ghost use Rattle.sv_ast.specs.ExprTrees.{expr_tree};
 ghost use Rattle.sv_ast.specs.SimpleTrees.{note_tree};
-ghost use Rattle.sv_parse_expr.specs.Reading.{Answered};
+ghost use Rattle.sv_read.specs.PartReading.{Reads};
 
 use sqlite_items::Items;
-use sv_ast::Note;
-use sv_parse_expr::{Class, Input, ParseError, fail, grow, read_expr};
+use sv_ast::{Expr, Note};
+use sv_parse_expr::read_expr;
+use sv_read::words::{NOTE, NOTE_END};
+use sv_read::{Begins, Class, Cursor, Extent, Kept, Nested, Parse, ParseError, Word};
 
-/// The annotation lines from a position on, as many as there are.
-pub fn note_lines(input: &Input<'_>, at: usize) -> Result<(Items<Note>, usize), ParseError>
-    requires within { at ≤ length input.now.tokens }
-    ensures reads { Answered (λ ns. list_tree (map note_tree ns)) (star (side g.note_line)) input.now at result }
-    ensures more { IfOk result (λ r. at ≤ r.1) }
-    ensures within { IfOk result (λ r. r.1 ≤ length input.now.tokens) }
-{
-    let mut notes = Items::new(input.alloc());
-    let mut now = at;
-    'more: while input.sees(now, Class::Note) {
-        (notes, now) = grow(notes, note_line(input, now))?;
+/// The reader of annotation lines, in which none nests.
+struct Lines;
+
+impl Nested for Lines {
+    ghost inner = { λ _. false };
+
+    ghost floor = { λ _. 0 };
+
+    ghost nests = { λ _. Unit {0} };
+}
+
+impl Parse<Lines> for Expr {
+    ghost part = { side g.expr };
+
+    ghost tree = { expr_tree };
+
+    fn parse(_reader: &Lines, cursor: &mut Cursor<'_>) -> Result<Expr, ParseError> {
+        read_expr(cursor)
     }
-    Ok((notes, now))
 }
 
 /// An annotation line: its word, its expression, and its end.
-fn note_line(input: &Input<'_>, at: usize) -> Result<(Note, usize), ParseError>
-    requires within { at ≤ length input.now.tokens }
-    ensures reads { Answered note_tree (side g.note_line) input.now at result }
-    ensures more { IfOk result (λ r. at < r.1) }
-    ensures within { IfOk result (λ r. r.1 ≤ length input.now.tokens) }
-{
-    let (word, behind) = input.text(at, &[Class::Note])?;
-    let (expr, last) = read_expr(input, behind)?;
-    let to = match input.expect(last, Class::NoteEnd) {
-        Ok(to) => to,
-        Err(e) => return Err(fail(expr, e)),
-    };
-    let lies = input.extent(at, to);
-    Ok((
-        Note {
-            word,
+impl Parse<Lines> for Note {
+    ghost part = { side g.note_line };
+
+    ghost tree = { note_tree };
+
+    fn parse(reader: &Lines, cursor: &mut Cursor<'_>) -> Result<Note, ParseError> {
+        let from = cursor.at();
+        type Parts = (Kept<NOTE>, Expr, Word<NOTE_END>);
+        let (word, expr, _) = <Parts as Parse<Lines>>::parse(reader, cursor)?;
+        let Extent { span, place } = cursor.extent(from);
+        Ok(Note {
+            word: word.0,
             expr,
-            span: lies.span,
-            place: lies.place,
-        },
-        to,
-    ))
+            span,
+            place,
+        })
+    }
+}
+
+impl Begins<Lines> for Note {
+    fn begins(cursor: &Cursor<'_>) -> bool {
+        cursor.sees_any(&[Class::Note])
+    }
+
+    ghost filled = { refl };
+}
+
+/// The annotation lines behind a cursor, as many as there are.
+pub fn note_lines(cursor: &mut Cursor<'_>) -> Result<Items<Note>, ParseError>
+    ensures { Reads (λ ns. list_tree (map note_tree ns)) (star (side g.note_line)) cursor.old result cursor.new }
+{
+    Parse::parse(&Lines, cursor)
+}
+
+/// An annotation line.
+pub fn read_note(cursor: &mut Cursor<'_>) -> Result<Note, ParseError>
+    ensures { Reads note_tree (side g.note_line) cursor.old result cursor.new }
+{
+    Parse::parse(&Lines, cursor)
 }

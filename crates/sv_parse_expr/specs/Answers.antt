@@ -1,5 +1,5 @@
--- What a parser answers.
-use Rattle.std.specs.Prelude.{◌≡◌, ℕ, Option, Some, None, List, Result, Ok, Err, slice_get, length}
+-- Believed: what a parser answers for the tokens of a text from a place on, and which texts it adds to the names. Hold it against docs/grammar.md, and docs/report.md on the place of `Syntax`.
+use Rattle.std.specs.Prelude.{◌≡◌, ℕ, Option, Some, None, List, Result, Ok, Err, All, Contains, slice_get, length, map, drop}
 use Rattle.sv_text.specs.declared.place.Place.{Place}
 use Rattle.sv_grammar.specs.Grammar.{Part, Token, Tree, Derives}
 use Rattle.sv_grammar.specs.Named.{Spells}
@@ -32,3 +32,7 @@ Answers tree a text from names (Err (Syntax place)) =
     (reach : ℕ) × Reaches rules a (tokens_of text) from reach
     × ((u : Tree) → Derives rules a (between (tokens_of text) from reach) u → ⊥) × (place ≡ place_of_token text reach)
 Answers tree a text from names (Err NoMemory) = Unit {0}
+
+-- each text that is new among the names is the text of a token
+abbrev pub AddsTexts : Scanned → List (List ℕ) → List (List ℕ) → Type 0
+AddsTexts text old new = All (Contains (map (λ l. l.text) text.list)) (drop (length old) new)

@@ -1,11 +1,5 @@
-pub mod Classes
 pub mod Given
 pub mod Answers
-pub mod Reading
-pub mod Choosing
-pub mod Symbols
-pub mod Nests
-pub mod Growing
-pub mod Tables
+pub mod Inner
 pub mod Exact
 pub mod PostParts

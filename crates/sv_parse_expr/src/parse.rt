@@ -1,27 +1,23 @@
 //! The parts of a text's tokens as trees.
 
-ghost use Rattle.std.specs.Prelude.{◌≡◌, ℕ, ◌^◌, ◌<◌, ◌≤◌, length, map};
-ghost use Rattle.sv_grammar.specs.Grammar.{Part, Tree, side};
+ghost use Rattle.std.specs.Prelude.{◌≡◌, ◌^◌, ◌<◌, ◌≤◌, length};
+ghost use denote.Ref.{MutBor};
+ghost use Rattle.sv_grammar.specs.Grammar.{side};
 ghost use Rattle.sv_grammar.specs.Named.{Grows};
 ghost use Rattle.sv_ast.specs.Syntax as g;
-ghost use Rattle.sv_ast.specs.Syntax.{Side};
-ghost use Rattle.sv_ast.specs.ExprTrees.{expr_tree, type_tree, args_tree};
+ghost use Rattle.sv_ast.specs.ExprTrees.{args_tree, expr_tree, type_tree};
 ghost use Rattle.sv_lex.specs.Limits.{HasNo, IsDeep};
-ghost use Rattle.sv_parse_expr.specs.Answers.{Answers, place_of_token};
-ghost use Rattle.sv_parse_expr.specs.Exact.{IsReadExactly, fault_of};
-ghost use Rattle.sv_parse_expr.specs.Given.{Given, tokens_of};
-ghost use Rattle.sv_parse_expr.specs.Reading.{Answered};
-ghost use Rattle.sv_parse_expr.specs.Symbols.{token_by, AreNamed};
+ghost use Rattle.sv_read.specs.Here.{Here};
+ghost use Rattle.sv_parse_expr.specs.Answers.{AddsTexts, Answers, place_of_token};
+ghost use Rattle.sv_parse_expr.specs.Exact.{AnswersBy, Show, fault_of};
 
-use crate::input::Input;
-use crate::parse_error::ParseError;
 use crate::parse_fault::ParseFault;
 use crate::reader::{read_args, read_expr, read_type};
-use crate::symbol::Symbol;
 use crate::symbols::symbols_of;
 use std::alloc::Global;
 use sv_ast::{Args, Expr, TypeExpr};
 use sv_lex::Tokens;
+use sv_read::{Cursor, ParseError, Symbol};
 use sv_text::{Names, Place};
 
 /// The place of the token at a position, and the end of the text where there is none.
@@ -45,16 +41,40 @@ fn fault_of(tokens: &Tokens<'_>, e: ParseError) -> ParseFault
     }
 }
 
-/// What was read of a part, with the place of an error.
-pub fn answer<X: Drop>(
+/// What a function reads of the tokens from a position on, and the position behind it.
+pub fn parse_by<X: Drop, F: Fn(&mut Cursor<'_>) -> Result<X, ParseError>>(
+    alloc: Global,
     tokens: &Tokens<'_>,
-    read: Result<(X, usize), ParseError>,
+    from: usize,
+    names: &mut Names,
+    read: &F,
 ) -> Result<(X, usize), ParseFault>
-    ensures { (tree : X → Tree) (a : Part Side) (given : Given) (from : ℕ) → IsReadExactly a → given.tokens ≡ tokens_of tokens.now
-        → Answered tree a given from read → Answers tree a tokens.now from given.names result }
+    requires within { from ≤ length tokens.now.list }
+    requires room { length names.old < 2 ^ 31 }
+    requires callable { (cursor : MutBor Here) → F.pre read.now cursor }
+    ensures answers { AnswersBy (F.post read.now) tokens.now from names.new result }
+    ensures grows { Grows names.old names.new }
+    ensures texts { AddsTexts tokens.now names.old names.new }
 {
-    match read {
-        Ok(read) => Ok(read),
+    let symbols = symbols_of(alloc, tokens, names)?;
+    parse_in(alloc, tokens, from, symbols.as_slice(), names, read)
+}
+
+fn parse_in<X: Drop, F: Fn(&mut Cursor<'_>) -> Result<X, ParseError>>(
+    alloc: Global,
+    tokens: &Tokens<'_>,
+    from: usize,
+    symbols: &[Symbol],
+    names: &Names,
+    read: &F,
+) -> Result<(X, usize), ParseFault>
+    requires shown { Show names.now symbols.now tokens.now × (from ≤ length symbols.now) }
+    requires callable { (cursor : MutBor Here) → F.pre read.now cursor }
+    ensures { AnswersBy (F.post read.now) tokens.now from names.now result }
+{
+    let mut cursor = Cursor::new(alloc, symbols, names, from);
+    match read(&mut cursor) {
+        Ok(node) => Ok((node, cursor.at())),
         Err(e) => Err(fault_of(tokens, e)),
     }
 }
@@ -72,25 +92,9 @@ pub fn parse_expr(
     requires room { length names.old < 2 ^ 31 }
     ensures answers { Answers expr_tree (side g.expr) tokens.now from names.new result }
     ensures grows { Grows names.old names.new }
+    ensures texts { AddsTexts tokens.now names.old names.new }
 {
-    let symbols = symbols_of(alloc, tokens, names)?;
-    expr_in(alloc, tokens, from, symbols.as_slice(), names)
-}
-
-fn expr_in(
-    alloc: Global,
-    tokens: &Tokens<'_>,
-    from: usize,
-    symbols: &[Symbol],
-    names: &Names,
-) -> Result<(Expr, usize), ParseFault>
-    requires within { from ≤ length tokens.now.list }
-    requires named { AreNamed names.now symbols.now }
-    requires shown { map (token_by names.now) symbols.now ≡ tokens_of tokens.now }
-    ensures { Answers expr_tree (side g.expr) tokens.now from names.now result }
-{
-    let input = Input::new(alloc, symbols, names);
-    answer(tokens, read_expr(&input, from))
+    parse_by(alloc, tokens, from, names, &read_expr)
 }
 
 /// A type, as `uint256[3][]`, of the tokens from a position on, and the position behind it.
@@ -105,25 +109,9 @@ pub fn parse_type(
     requires room { length names.old < 2 ^ 31 }
     ensures answers { Answers type_tree (side g.type) tokens.now from names.new result }
     ensures grows { Grows names.old names.new }
+    ensures texts { AddsTexts tokens.now names.old names.new }
 {
-    let symbols = symbols_of(alloc, tokens, names)?;
-    type_in(alloc, tokens, from, symbols.as_slice(), names)
-}
-
-fn type_in(
-    alloc: Global,
-    tokens: &Tokens<'_>,
-    from: usize,
-    symbols: &[Symbol],
-    names: &Names,
-) -> Result<(TypeExpr, usize), ParseFault>
-    requires within { from ≤ length tokens.now.list }
-    requires named { AreNamed names.now symbols.now }
-    requires shown { map (token_by names.now) symbols.now ≡ tokens_of tokens.now }
-    ensures { Answers type_tree (side g.type) tokens.now from names.now result }
-{
-    let input = Input::new(alloc, symbols, names);
-    answer(tokens, read_type(&input, from))
+    parse_by(alloc, tokens, from, names, &read_type)
 }
 
 /// Arguments, as `(a, b)`, of the tokens from a position on, and the position behind them.
@@ -138,23 +126,7 @@ pub fn parse_args(
     requires room { length names.old < 2 ^ 31 }
     ensures answers { Answers args_tree (side g.args) tokens.now from names.new result }
     ensures grows { Grows names.old names.new }
+    ensures texts { AddsTexts tokens.now names.old names.new }
 {
-    let symbols = symbols_of(alloc, tokens, names)?;
-    args_in(alloc, tokens, from, symbols.as_slice(), names)
-}
-
-fn args_in(
-    alloc: Global,
-    tokens: &Tokens<'_>,
-    from: usize,
-    symbols: &[Symbol],
-    names: &Names,
-) -> Result<(Args, usize), ParseFault>
-    requires within { from ≤ length tokens.now.list }
-    requires named { AreNamed names.now symbols.now }
-    requires shown { map (token_by names.now) symbols.now ≡ tokens_of tokens.now }
-    ensures { Answers args_tree (side g.args) tokens.now from names.now result }
-{
-    let input = Input::new(alloc, symbols, names);
-    answer(tokens, read_args(&input, from))
+    parse_by(alloc, tokens, from, names, &read_args)
 }

@@ -1,696 +1,347 @@
 //! Atoms and what is applied to them.
-#![tactic(auto, using(crate::proofs::ExprReading::expr_reading))]
+#![tactic(auto, using(sv_read::proofs::Reading::fails_memory))]
 
-ghost use Rattle.std.specs.Prelude.{◌≡◌, ◌<◌, ◌≤◌, [], ◌∷◌, true, false, drop, length, map, IfOk};
-ghost use Rattle.sv_grammar.specs.Grammar.{elem, name, opt, side, star, unit};
-ghost use Rattle.sv_grammar.specs.Reading.{next, list_tree};
-ghost use Rattle.sv_ast.specs.Terminals as k;
-ghost use Rattle.sv_ast.specs.Trees.{◌⊗◌, commas, optional, optional_commas};
-ghost use Rattle.sv_ast.specs.Firsts.{firsts};
+ghost use Rattle.std.specs.Prelude.{◌≡◌, [], ◌∷◌, true, refl, map};
+ghost use Rattle.sv_grammar.specs.Grammar.{elem, opt, side, unit};
+ghost use Rattle.sv_ast.specs.Terminals.{code};
+ghost use Rattle.sv_ast.specs.declared.class.Class.TheVariants as k;
+ghost use Rattle.sv_ast.specs.Trees.{◌⊗◌, last, optional_commas};
 ghost use Rattle.sv_ast.specs.Syntax as g;
-ghost use Rattle.sv_ast.specs.Syntax.{quoted, kept, listed, member, ◌⊙◌, ◌∣◌};
-ghost use Rattle.sv_ast.specs.ExprTrees.{expr_tree, post_tree, suffix_tree, suffix_kind_tree, atom_tree, atom_kind_tree, args_tree, args_kind_tree, named_arg_tree, type_tree, unit10_tree, unit10_kind_tree};
-ghost use Rattle.sv_parse_expr.specs.Classes.{code};
-ghost use Rattle.sv_parse_expr.specs.Nests.{Nests};
-ghost use Rattle.sv_parse_expr.specs.PostParts.{named, in_order, by_name};
-ghost use Rattle.sv_parse_expr.specs.Reading.{Answered};
+ghost use Rattle.sv_ast.specs.Syntax.{listed, quoted, ◌⊙◌};
+ghost use Rattle.sv_ast.specs.ExprTrees.{args_kind_tree, args_tree, atom_kind_tree, atom_tree, expr_tree, named_arg_tree, post_tree, suffix_kind_tree, suffix_tree, type_tree, unit10_kind_tree, unit10_tree};
+ghost use Rattle.sv_read.specs.Here.{seen};
+ghost use Rattle.sv_read.specs.PartReading.{Reads};
+ghost use Rattle.sv_read.specs.EitherTree.{either_tree};
+ghost use Rattle.sv_parse_expr.specs.Inner.{May};
+ghost use Rattle.sv_parse_expr.specs.PostParts.{args_part, named};
 
-use crate::class::Class;
-use crate::growing::{boxed, fail, grow};
-use crate::input::Input;
-use crate::parse_error::ParseError;
-use crate::reader::Reader;
+use crate::operators::sees_expr;
+use crate::reader::{Exprs, NestedExprs};
 use sqlite_items::{Boxed, Items};
 use sv_ast::{
     Args, ArgsKind, Atom, AtomKind, Expr, NamedArg, Post, Suffix, SuffixKind, TypeExpr, Unit10,
     Unit10Kind,
 };
+use sv_read::Either::{self, First, Second};
+use sv_read::words::{
+    ADDRESS, COLON, DAYS, DECREMENT, DOT, ELEMENTARY, ETHER, FALSE, GWEI, HEXADECIMAL, HOURS,
+    INCREMENT, L_BRACE, L_BRACKET, L_PAREN, MINUTES, NEW, NUMBER, PAYABLE, R_BRACE, R_BRACKET,
+    R_PAREN, SECONDS, STRING_LITERAL, SUPER, THIS, TRUE, TYPE, VALUE, WEEKS, WEI,
+};
+use sv_read::{Begins, Class, Commas, Cursor, Extent, Kept, Parse, ParseError, Word, with};
 use sv_text::Name;
 
-/// What a suffix may begin with.
-const SUFFIXES: [Class; 6] = [
-    Class::LParen,
-    Class::LBracket,
-    Class::LBrace,
-    Class::Dot,
-    Class::Increment,
-    Class::Decrement,
-];
+/// An atom with what is applied to it, as `a.b[i](x)`.
+impl<N: NestedExprs> Parse<Exprs<N>> for Post {
+    ghost part = { side g.post };
 
-/// The units of numbers.
-const UNITS: [Class; 8] = [
-    Class::Days,
-    Class::Ether,
-    Class::Gwei,
-    Class::Hours,
-    Class::Minutes,
-    Class::Seconds,
-    Class::Weeks,
-    Class::Wei,
-];
+    ghost tree = { post_tree };
 
-/// Numbers, strings and truth values.
-const LITERALS: [Class; 5] = [
-    Class::Number,
-    Class::Hexadecimal,
-    Class::StringLiteral,
-    Class::True,
-    Class::False,
-];
-
-/// The atoms that are one word and no truth value.
-const WORDS: [Class; 4] = [Class::Address, Class::Payable, Class::Super, Class::This];
-
-impl<F: Fn(&Input<'_>, usize) -> Result<(Expr, usize), ParseError>> Reader<F> {
-    /// An atom with what is applied to it, as `a.b[i](x)`.
-    pub fn post(&self, input: &Input<'_>, at: usize) -> Result<(Post, usize), ParseError>
-        requires nests { Nests self.now.floor input.now (F.pre self.now.expr) (F.post self.now.expr) }
-        requires from { self.now.floor ≤ at }
-        requires within { at ≤ length input.now.tokens }
-        ensures reads { Answered post_tree (side g.post) input.now at result }
-        ensures more { IfOk result (λ r. at < r.1) }
-        ensures within { IfOk result (λ r. r.1 ≤ length input.now.tokens) }
-    {
-        if input.sees(at, Class::New) {
-            self.new_post(input, at)
-        } else {
-            self.atom_post(input, at)
+    fn parse(reader: &Exprs<N>, cursor: &mut Cursor<'_>) -> Result<Post, ParseError> {
+        if cursor.sees(Class::New) {
+            return new_post(reader, cursor);
         }
-    }
-
-    /// `new` with a type and what is applied to it, as `new uint256[](3)`.
-    fn new_post(&self, input: &Input<'_>, at: usize) -> Result<(Post, usize), ParseError>
-        requires nests { Nests self.now.floor input.now (F.pre self.now.expr) (F.post self.now.expr) }
-        requires from { self.now.floor ≤ at }
-        requires within { at ≤ length input.now.tokens }
-        requires sees_new { elem (next (drop at input.now.tokens)) (k.new ∷ []) ≡ true }
-        ensures reads { Answered post_tree (side g.post) input.now at result }
-        ensures more { IfOk result (λ r. at < r.1) }
-        ensures within { IfOk result (λ r. r.1 ≤ length input.now.tokens) }
-    {
-        let behind = input.expect(at, Class::New)?;
-        let (of, next) = self.boxed_type(input, behind)?;
-        let (suffixes, to) = match self.suffixes(input, next) {
-            Ok(read) => read,
-            Err(e) => return Err(fail(of, e)),
-        };
-        let front = input.extent(at, next);
-        let lies = input.extent(at, to);
-        let atom = Atom {
-            kind: AtomKind::New(of),
-            span: front.span,
-            place: front.place,
-        };
-        Ok((
-            Post {
-                atom,
-                suffixes,
-                span: lies.span,
-                place: lies.place,
-            },
-            to,
-        ))
-    }
-
-    /// An atom without `new`, with what is applied to it.
-    fn atom_post(&self, input: &Input<'_>, at: usize) -> Result<(Post, usize), ParseError>
-        requires nests { Nests self.now.floor input.now (F.pre self.now.expr) (F.post self.now.expr) }
-        requires from { self.now.floor ≤ at }
-        requires within { at ≤ length input.now.tokens }
-        requires sees_other { elem (next (drop at input.now.tokens)) (k.new ∷ []) ≡ false }
-        ensures reads { Answered post_tree (side g.post) input.now at result }
-        ensures more { IfOk result (λ r. at < r.1) }
-        ensures within { IfOk result (λ r. r.1 ≤ length input.now.tokens) }
-    {
-        let (atom, next) = self.atom(input, at)?;
-        let (suffixes, to) = match self.suffixes(input, next) {
-            Ok(read) => read,
-            Err(e) => return Err(fail(atom, e)),
-        };
-        let lies = input.extent(at, to);
-        Ok((
-            Post {
-                atom,
-                suffixes,
-                span: lies.span,
-                place: lies.place,
-            },
-            to,
-        ))
-    }
-
-    fn boxed_type(
-        &self,
-        input: &Input<'_>,
-        at: usize,
-    ) -> Result<(Boxed<TypeExpr>, usize), ParseError>
-        requires nests { Nests self.now.floor input.now (F.pre self.now.expr) (F.post self.now.expr) }
-        requires from { self.now.floor ≤ at }
-        requires within { at ≤ length input.now.tokens }
-        ensures reads { Answered type_tree (side g.type) input.now at result }
-        ensures more { IfOk result (λ r. at < r.1) }
-        ensures within { IfOk result (λ r. r.1 ≤ length input.now.tokens) }
-    {
-        let (of, to) = self.type_expr(input, at)?;
-        let of = boxed(input.alloc(), of)?;
-        Ok((of, to))
-    }
-
-    /// What is applied to an atom, one after the other.
-    fn suffixes(&self, input: &Input<'_>, at: usize) -> Result<(Items<Suffix>, usize), ParseError>
-        requires nests { Nests self.now.floor input.now (F.pre self.now.expr) (F.post self.now.expr) }
-        requires from { self.now.floor ≤ at }
-        requires within { at ≤ length input.now.tokens }
-        ensures reads { Answered (λ ss. list_tree (map suffix_tree ss)) (star (side g.suffix)) input.now at result }
-        ensures more { IfOk result (λ r. at ≤ r.1) }
-        ensures within { IfOk result (λ r. r.1 ≤ length input.now.tokens) }
-    {
-        let mut suffixes = Items::new(input.alloc());
-        let mut now = at;
-        'more: while sees_suffix(input, now) {
-            (suffixes, now) = grow(suffixes, self.suffix(input, now))?;
-        }
-        Ok((suffixes, now))
-    }
-
-    /// What is applied to an expression that stands before it.
-    fn suffix(&self, input: &Input<'_>, at: usize) -> Result<(Suffix, usize), ParseError>
-        requires nests { Nests self.now.floor input.now (F.pre self.now.expr) (F.post self.now.expr) }
-        requires from { self.now.floor ≤ at }
-        requires within { at ≤ length input.now.tokens }
-        ensures reads { Answered suffix_tree (side g.suffix) input.now at result }
-        ensures more { IfOk result (λ r. at < r.1) }
-        ensures within { IfOk result (λ r. r.1 ≤ length input.now.tokens) }
-    {
-        let (kind, to) = self.suffix_kind(input, at)?;
-        let lies = input.extent(at, to);
-        Ok((
-            Suffix {
-                kind,
-                span: lies.span,
-                place: lies.place,
-            },
-            to,
-        ))
-    }
-
-    fn suffix_kind(&self, input: &Input<'_>, at: usize) -> Result<(SuffixKind, usize), ParseError>
-        requires nests { Nests self.now.floor input.now (F.pre self.now.expr) (F.post self.now.expr) }
-        requires from { self.now.floor ≤ at }
-        requires within { at ≤ length input.now.tokens }
-        ensures reads { Answered suffix_kind_tree (g.rules g.suffix) input.now at result }
-        ensures more { IfOk result (λ r. at < r.1) }
-        ensures within { IfOk result (λ r. r.1 ≤ length input.now.tokens) }
-    {
-        if input.sees(at, Class::LBracket) {
-            let (index, to) = self.index(input, at)?;
-            Ok((SuffixKind::Index(index), to))
-        } else if input.sees(at, Class::Dot) {
-            let (member, to) = member(input, at)?;
-            Ok((SuffixKind::Member(member), to))
-        } else if input.sees(at, Class::LParen) {
-            let (args, to) = self.args(input, at)?;
-            Ok((SuffixKind::Call(args), to))
-        } else if input.sees(at, Class::LBrace) {
-            let (value, to) = self.value(input, at)?;
-            Ok((SuffixKind::Value(value), to))
-        } else if input.sees(at, Class::Increment) {
-            let to = input.expect(at, Class::Increment)?;
-            Ok((SuffixKind::Increment, to))
-        } else {
-            let to = input.expect(at, Class::Decrement)?;
-            Ok((SuffixKind::Decrement, to))
-        }
-    }
-
-    /// An index, as `[i]`.
-    fn index(&self, input: &Input<'_>, at: usize) -> Result<(Boxed<Expr>, usize), ParseError>
-        requires nests { Nests self.now.floor input.now (F.pre self.now.expr) (F.post self.now.expr) }
-        requires from { self.now.floor ≤ at }
-        requires within { at ≤ length input.now.tokens }
-        ensures reads { Answered (λ e. unit ⊗ expr_tree e ⊗ unit) (quoted k.l_bracket ⊙ side g.expr ⊙ quoted k.r_bracket) input.now at result }
-        ensures more { IfOk result (λ r. at < r.1) }
-        ensures within { IfOk result (λ r. r.1 ≤ length input.now.tokens) }
-    {
-        let behind = input.expect(at, Class::LBracket)?;
-        self.closed_expr(input, behind, Class::RBracket)
-    }
-
-    /// The ether that a call sends, as `{value: a}`.
-    fn value(&self, input: &Input<'_>, at: usize) -> Result<(Boxed<Expr>, usize), ParseError>
-        requires nests { Nests self.now.floor input.now (F.pre self.now.expr) (F.post self.now.expr) }
-        requires from { self.now.floor ≤ at }
-        requires within { at ≤ length input.now.tokens }
-        ensures reads { Answered (λ e. unit ⊗ unit ⊗ unit ⊗ expr_tree e ⊗ unit) (quoted k.l_brace ⊙ quoted k.value ⊙ quoted k.colon ⊙ side g.expr ⊙ quoted k.r_brace) input.now at result }
-        ensures more { IfOk result (λ r. at < r.1) }
-        ensures within { IfOk result (λ r. r.1 ≤ length input.now.tokens) }
-    {
-        let behind = input.expect(at, Class::LBrace)?;
-        let colon = input.expect(behind, Class::Value)?;
-        let next = input.expect(colon, Class::Colon)?;
-        self.closed_expr(input, next, Class::RBrace)
-    }
-
-    /// An expression with a token of this class behind it.
-    fn closed_expr(
-        &self,
-        input: &Input<'_>,
-        at: usize,
-        close: Class,
-    ) -> Result<(Boxed<Expr>, usize), ParseError>
-        requires nests { Nests self.now.floor input.now (F.pre self.now.expr) (F.post self.now.expr) }
-        requires behind { self.now.floor < at }
-        requires within { at ≤ length input.now.tokens }
-        requires close { elem 0 (code close ∷ []) ≡ false }
-        ensures reads { Answered (λ e. expr_tree e ⊗ unit) (side g.expr ⊙ quoted (code close)) input.now at result }
-        ensures more { IfOk result (λ r. at < r.1) }
-        ensures within { IfOk result (λ r. r.1 ≤ length input.now.tokens) }
-    {
-        let (e, next) = self.expr(input, at)?;
-        let to = match input.expect(next, close) {
-            Ok(to) => to,
-            Err(error) => return Err(fail(e, error)),
-        };
-        let e = boxed(input.alloc(), e)?;
-        Ok((e, to))
-    }
-
-    /// The smallest expressions, without `new`.
-    fn atom(&self, input: &Input<'_>, at: usize) -> Result<(Atom, usize), ParseError>
-        requires nests { Nests self.now.floor input.now (F.pre self.now.expr) (F.post self.now.expr) }
-        requires from { self.now.floor ≤ at }
-        requires within { at ≤ length input.now.tokens }
-        ensures reads { Answered atom_tree (side g.atom) input.now at result }
-        ensures more { IfOk result (λ r. at < r.1) }
-        ensures within { IfOk result (λ r. r.1 ≤ length input.now.tokens) }
-    {
-        let (kind, to) = self.atom_kind(input, at)?;
-        let lies = input.extent(at, to);
-        Ok((
-            Atom {
-                kind,
-                span: lies.span,
-                place: lies.place,
-            },
-            to,
-        ))
-    }
-
-    fn atom_kind(&self, input: &Input<'_>, at: usize) -> Result<(AtomKind, usize), ParseError>
-        requires nests { Nests self.now.floor input.now (F.pre self.now.expr) (F.post self.now.expr) }
-        requires from { self.now.floor ≤ at }
-        requires within { at ≤ length input.now.tokens }
-        ensures reads { Answered atom_kind_tree (g.rules g.atom) input.now at result }
-        ensures more { IfOk result (λ r. at < r.1) }
-        ensures within { IfOk result (λ r. r.1 ≤ length input.now.tokens) }
-    {
-        if sees_literal(input, at) {
-            literal(input, at)
-        } else if input.sees_id(at) {
-            let (name, to) = input.id(at)?;
-            Ok((AtomKind::Name(name), to))
-        } else if input.sees(at, Class::Elementary) {
-            let (name, to) = text(input, at, Class::Elementary)?;
-            Ok((AtomKind::Elementary(name), to))
-        } else if input.sees(at, Class::Type) {
-            let (of, to) = self.asked_type(input, at)?;
-            Ok((AtomKind::Type(of), to))
-        } else if sees_word(input, at) {
-            word(input, at)
-        } else {
-            let (inner, to) = self.paren(input, at)?;
-            Ok((AtomKind::Paren(inner), to))
-        }
-    }
-
-    /// A type to ask about, as `type(uint8)`.
-    fn asked_type(
-        &self,
-        input: &Input<'_>,
-        at: usize,
-    ) -> Result<(Boxed<TypeExpr>, usize), ParseError>
-        requires nests { Nests self.now.floor input.now (F.pre self.now.expr) (F.post self.now.expr) }
-        requires from { self.now.floor ≤ at }
-        requires within { at ≤ length input.now.tokens }
-        ensures reads { Answered (λ t. unit ⊗ unit ⊗ type_tree t ⊗ unit) (quoted k.type ⊙ quoted k.l_paren ⊙ side g.type ⊙ quoted k.r_paren) input.now at result }
-        ensures more { IfOk result (λ r. at < r.1) }
-        ensures within { IfOk result (λ r. r.1 ≤ length input.now.tokens) }
-    {
-        let behind = input.expect(at, Class::Type)?;
-        let inside = input.expect(behind, Class::LParen)?;
-        let (of, next) = self.type_expr(input, inside)?;
-        let to = match input.expect(next, Class::RParen) {
-            Ok(to) => to,
-            Err(e) => return Err(fail(of, e)),
-        };
-        let of = boxed(input.alloc(), of)?;
-        Ok((of, to))
-    }
-
-    /// An expression in parentheses, as `(a + b)`.
-    fn paren(&self, input: &Input<'_>, at: usize) -> Result<(Boxed<Expr>, usize), ParseError>
-        requires nests { Nests self.now.floor input.now (F.pre self.now.expr) (F.post self.now.expr) }
-        requires from { self.now.floor ≤ at }
-        requires within { at ≤ length input.now.tokens }
-        ensures reads { Answered (λ e. unit ⊗ expr_tree e ⊗ unit) (quoted k.l_paren ⊙ side g.expr ⊙ quoted k.r_paren) input.now at result }
-        ensures more { IfOk result (λ r. at < r.1) }
-        ensures within { IfOk result (λ r. r.1 ≤ length input.now.tokens) }
-    {
-        let behind = input.expect(at, Class::LParen)?;
-        self.closed_expr(input, behind, Class::RParen)
-    }
-
-    /// Arguments, as `(a, b)` or `({to: a})`.
-    pub fn args(&self, input: &Input<'_>, at: usize) -> Result<(Args, usize), ParseError>
-        requires nests { Nests self.now.floor input.now (F.pre self.now.expr) (F.post self.now.expr) }
-        requires from { self.now.floor ≤ at }
-        requires within { at ≤ length input.now.tokens }
-        ensures reads { Answered args_tree (side g.args) input.now at result }
-        ensures more { IfOk result (λ r. at < r.1) }
-        ensures within { IfOk result (λ r. r.1 ≤ length input.now.tokens) }
-    {
-        let behind = input.expect(at, Class::LParen)?;
-        let (kind, to) = self.args_kind(input, behind)?;
-        let lies = input.extent(at, to);
-        Ok((
-            Args {
-                kind,
-                span: lies.span,
-                place: lies.place,
-            },
-            to,
-        ))
-    }
-
-    fn args_kind(&self, input: &Input<'_>, at: usize) -> Result<(ArgsKind, usize), ParseError>
-        requires nests { Nests self.now.floor input.now (F.pre self.now.expr) (F.post self.now.expr) }
-        requires behind { self.now.floor < at }
-        requires within { at ≤ length input.now.tokens }
-        ensures reads { Answered args_kind_tree (in_order ∣ by_name) input.now at result }
-        ensures more { IfOk result (λ r. at < r.1) }
-        ensures within { IfOk result (λ r. r.1 ≤ length input.now.tokens) }
-    {
-        if input.sees(at, Class::LBrace) {
-            let (args, to) = self.named(input, at)?;
-            Ok((ArgsKind::Named(args), to))
-        } else {
-            let (args, to) = self.in_order(input, at)?;
-            Ok((ArgsKind::Positional(args), to))
-        }
-    }
-
-    /// Arguments in order, with the `)` behind them.
-    fn in_order(&self, input: &Input<'_>, at: usize) -> Result<(Items<Expr>, usize), ParseError>
-        requires nests { Nests self.now.floor input.now (F.pre self.now.expr) (F.post self.now.expr) }
-        requires behind { self.now.floor < at }
-        requires within { at ≤ length input.now.tokens }
-        ensures reads { Answered (λ es. optional_commas (map expr_tree es) ⊗ unit) in_order input.now at result }
-        ensures more { IfOk result (λ r. at < r.1) }
-        ensures within { IfOk result (λ r. r.1 ≤ length input.now.tokens) }
-    {
-        if input.sees(at, Class::RParen) {
-            let to = input.expect(at, Class::RParen)?;
-            return Ok((Items::new(input.alloc()), to));
-        }
-        let (args, next) = self.exprs(input, at)?;
-        match input.expect(next, Class::RParen) {
-            Ok(to) => Ok((args, to)),
-            Err(e) => Err(fail(args, e)),
-        }
-    }
-
-    /// Expressions with `,` between them.
-    fn exprs(&self, input: &Input<'_>, at: usize) -> Result<(Items<Expr>, usize), ParseError>
-        requires nests { Nests self.now.floor input.now (F.pre self.now.expr) (F.post self.now.expr) }
-        requires behind { self.now.floor < at }
-        requires within { at ≤ length input.now.tokens }
-        ensures reads { Answered (λ es. commas (map expr_tree es)) (listed (side g.expr)) input.now at result }
-        ensures more { IfOk result (λ r. at < r.1) }
-        ensures within { IfOk result (λ r. r.1 ≤ length input.now.tokens) }
-    {
-        let (mut items, mut now) = grow(Items::new(input.alloc()), self.expr(input, at))?;
-        'more: while input.sees(now, Class::Comma) {
-            (items, now) = grow(items, self.next_expr(input, now))?;
-        }
-        Ok((items, now))
-    }
-
-    fn next_expr(&self, input: &Input<'_>, at: usize) -> Result<(Expr, usize), ParseError>
-        requires nests { Nests self.now.floor input.now (F.pre self.now.expr) (F.post self.now.expr) }
-        requires behind { self.now.floor < at }
-        requires within { at ≤ length input.now.tokens }
-        ensures reads { Answered (λ e. unit ⊗ expr_tree e) (quoted k.comma ⊙ side g.expr) input.now at result }
-        ensures more { IfOk result (λ r. at < r.1) }
-        ensures within { IfOk result (λ r. r.1 ≤ length input.now.tokens) }
-    {
-        let behind = input.expect(at, Class::Comma)?;
-        self.expr(input, behind)
-    }
-
-    /// Arguments by name, with the braces round them and the `)` behind.
-    fn named(&self, input: &Input<'_>, at: usize) -> Result<(Items<NamedArg>, usize), ParseError>
-        requires nests { Nests self.now.floor input.now (F.pre self.now.expr) (F.post self.now.expr) }
-        requires behind { self.now.floor < at }
-        requires within { at ≤ length input.now.tokens }
-        ensures reads { Answered (λ es. unit ⊗ optional_commas (map named_arg_tree es) ⊗ unit ⊗ unit) by_name input.now at result }
-        ensures more { IfOk result (λ r. at < r.1) }
-        ensures within { IfOk result (λ r. r.1 ≤ length input.now.tokens) }
-    {
-        let behind = input.expect(at, Class::LBrace)?;
-        if input.sees(behind, Class::RBrace) {
-            let next = input.expect(behind, Class::RBrace)?;
-            let to = input.expect(next, Class::RParen)?;
-            return Ok((Items::new(input.alloc()), to));
-        }
-        let (args, brace) = self.named_args(input, behind)?;
-        let next = match input.expect(brace, Class::RBrace) {
-            Ok(to) => to,
-            Err(e) => return Err(fail(args, e)),
-        };
-        match input.expect(next, Class::RParen) {
-            Ok(to) => Ok((args, to)),
-            Err(e) => Err(fail(args, e)),
-        }
-    }
-
-    /// Named arguments with `,` between them.
-    fn named_args(
-        &self,
-        input: &Input<'_>,
-        at: usize,
-    ) -> Result<(Items<NamedArg>, usize), ParseError>
-        requires nests { Nests self.now.floor input.now (F.pre self.now.expr) (F.post self.now.expr) }
-        requires behind { self.now.floor < at }
-        requires within { at ≤ length input.now.tokens }
-        ensures reads { Answered (λ es. commas (map named_arg_tree es)) (listed named) input.now at result }
-        ensures more { IfOk result (λ r. at < r.1) }
-        ensures within { IfOk result (λ r. r.1 ≤ length input.now.tokens) }
-    {
-        let (mut items, mut now) = grow(Items::new(input.alloc()), self.named_arg(input, at))?;
-        'more: while input.sees(now, Class::Comma) {
-            (items, now) = grow(items, self.next_named_arg(input, now))?;
-        }
-        Ok((items, now))
-    }
-
-    fn next_named_arg(&self, input: &Input<'_>, at: usize) -> Result<(NamedArg, usize), ParseError>
-        requires nests { Nests self.now.floor input.now (F.pre self.now.expr) (F.post self.now.expr) }
-        requires behind { self.now.floor < at }
-        requires within { at ≤ length input.now.tokens }
-        ensures reads { Answered (λ e. unit ⊗ named_arg_tree e) (quoted k.comma ⊙ named) input.now at result }
-        ensures more { IfOk result (λ r. at < r.1) }
-        ensures within { IfOk result (λ r. r.1 ≤ length input.now.tokens) }
-    {
-        let behind = input.expect(at, Class::Comma)?;
-        self.named_arg(input, behind)
-    }
-
-    /// An argument by name, as `to: a`.
-    fn named_arg(&self, input: &Input<'_>, at: usize) -> Result<(NamedArg, usize), ParseError>
-        requires nests { Nests self.now.floor input.now (F.pre self.now.expr) (F.post self.now.expr) }
-        requires behind { self.now.floor < at }
-        requires within { at ≤ length input.now.tokens }
-        ensures reads { Answered named_arg_tree named input.now at result }
-        ensures more { IfOk result (λ r. at < r.1) }
-        ensures within { IfOk result (λ r. r.1 ≤ length input.now.tokens) }
-    {
-        let (name, colon) = input.id(at)?;
-        let behind = input.expect(colon, Class::Colon)?;
-        let (value, to) = self.expr(input, behind)?;
-        Ok((NamedArg { name, value }, to))
+        let from = cursor.at();
+        let (atom, suffixes) = Parse::parse(reader, cursor)?;
+        let Extent { span, place } = cursor.extent(from);
+        Ok(Post {
+            atom,
+            suffixes,
+            span,
+            place,
+        })
     }
 }
 
-fn sees_suffix(input: &Input<'_>, at: usize) -> bool
-    ensures { result ≡ elem (next (drop at input.now.tokens)) (firsts g.suffix) }
+/// `new` with a type and what is applied to it, as `new uint256[](3)`.
+fn new_post<N: NestedExprs>(reader: &Exprs<N>, cursor: &mut Cursor<'_>) -> Result<Post, ParseError>
+    requires may { May N.nests N.floor reader.now.nested (side g.post) cursor.old.at }
+    requires sees_new { elem (seen cursor.old) (code k.New ∷ []) ≡ true }
+    ensures { Reads post_tree (side g.post) cursor.old result cursor.new }
 {
-    input.sees_any(at, &SUFFIXES)
+    let from = cursor.at();
+    let front = <(Word<NEW>, Boxed<TypeExpr>) as Parse<Exprs<N>>>::parse(reader, cursor)?;
+    let Extent { span, place } = cursor.extent(from);
+    let ((_, of), suffixes) = with(front, Parse::parse(reader, cursor))?;
+    let atom = Atom {
+        kind: AtomKind::New(of),
+        span,
+        place,
+    };
+    let Extent { span, place } = cursor.extent(from);
+    Ok(Post {
+        atom,
+        suffixes,
+        span,
+        place,
+    })
 }
 
-fn sees_unit(input: &Input<'_>, at: usize) -> bool
-    ensures { result ≡ elem (next (drop at input.now.tokens)) (firsts g.unit10) }
-{
-    input.sees_any(at, &UNITS)
-}
+/// What is applied to an expression that stands before it.
+impl<N: NestedExprs> Parse<Exprs<N>> for Suffix {
+    ghost part = { side g.suffix };
 
-fn sees_literal(input: &Input<'_>, at: usize) -> bool
-    ensures { result ≡ elem (next (drop at input.now.tokens)) (k.number ∷ k.hexadecimal ∷ k.string_literal ∷ k.true ∷ k.false ∷ []) }
-{
-    input.sees_any(at, &LITERALS)
-}
+    ghost tree = { suffix_tree };
 
-fn sees_word(input: &Input<'_>, at: usize) -> bool
-    ensures { result ≡ elem (next (drop at input.now.tokens)) (k.address ∷ k.payable ∷ k.super ∷ k.this ∷ []) }
-{
-    input.sees_any(at, &WORDS)
-}
-
-/// A token of this class, whose text counts.
-fn text(input: &Input<'_>, at: usize, class: Class) -> Result<(Name, usize), ParseError>
-    requires within { at ≤ length input.now.tokens }
-    requires class { elem 0 (code class ∷ []) ≡ false }
-    ensures reads { Answered name (kept (code class)) input.now at result }
-    ensures more { IfOk result (λ r. at < r.1) }
-    ensures within { IfOk result (λ r. r.1 ≤ length input.now.tokens) }
-{
-    input.text(at, &[class])
-}
-
-/// A member, as `.length`.
-fn member(input: &Input<'_>, at: usize) -> Result<(Name, usize), ParseError>
-    requires within { at ≤ length input.now.tokens }
-    ensures reads { Answered (λ n. unit ⊗ name n) member input.now at result }
-    ensures more { IfOk result (λ r. at < r.1) }
-    ensures within { IfOk result (λ r. r.1 ≤ length input.now.tokens) }
-{
-    let behind = input.expect(at, Class::Dot)?;
-    input.id(behind)
-}
-
-/// A number, a string or a truth value.
-fn literal(input: &Input<'_>, at: usize) -> Result<(AtomKind, usize), ParseError>
-    requires within { at ≤ length input.now.tokens }
-    requires sees_literal { elem (next (drop at input.now.tokens)) (k.number ∷ k.hexadecimal ∷ k.string_literal ∷ k.true ∷ k.false ∷ []) ≡ true }
-    ensures reads { Answered atom_kind_tree (g.rules g.atom) input.now at result }
-    ensures more { IfOk result (λ r. at < r.1) }
-    ensures within { IfOk result (λ r. r.1 ≤ length input.now.tokens) }
-{
-    if input.sees(at, Class::Number) {
-        let ((digits, unit), to) = number(input, at)?;
-        Ok((AtomKind::Number { digits, unit }, to))
-    } else if input.sees(at, Class::Hexadecimal) {
-        let (digits, to) = text(input, at, Class::Hexadecimal)?;
-        Ok((AtomKind::Hexadecimal(digits), to))
-    } else if input.sees(at, Class::StringLiteral) {
-        let (string, to) = text(input, at, Class::StringLiteral)?;
-        Ok((AtomKind::String(string), to))
-    } else if input.sees(at, Class::True) {
-        let to = input.expect(at, Class::True)?;
-        Ok((AtomKind::True, to))
-    } else {
-        let to = input.expect(at, Class::False)?;
-        Ok((AtomKind::False, to))
+    fn parse(reader: &Exprs<N>, cursor: &mut Cursor<'_>) -> Result<Suffix, ParseError> {
+        let from = cursor.at();
+        let kind = Parse::parse(reader, cursor)?;
+        let Extent { span, place } = cursor.extent(from);
+        Ok(Suffix { kind, span, place })
     }
 }
 
-/// An atom that is one word.
-fn word(input: &Input<'_>, at: usize) -> Result<(AtomKind, usize), ParseError>
-    requires within { at ≤ length input.now.tokens }
-    requires sees_word { elem (next (drop at input.now.tokens)) (k.address ∷ k.payable ∷ k.super ∷ k.this ∷ []) ≡ true }
-    ensures reads { Answered atom_kind_tree (g.rules g.atom) input.now at result }
-    ensures more { IfOk result (λ r. at < r.1) }
-    ensures within { IfOk result (λ r. r.1 ≤ length input.now.tokens) }
-{
-    if input.sees(at, Class::Address) {
-        let to = input.expect(at, Class::Address)?;
-        Ok((AtomKind::Address, to))
-    } else if input.sees(at, Class::Payable) {
-        let to = input.expect(at, Class::Payable)?;
-        Ok((AtomKind::Payable, to))
-    } else if input.sees(at, Class::Super) {
-        let to = input.expect(at, Class::Super)?;
-        Ok((AtomKind::Super, to))
-    } else {
-        let to = input.expect(at, Class::This)?;
-        Ok((AtomKind::This, to))
+impl<N: NestedExprs> Begins<Exprs<N>> for Suffix {
+    fn begins(cursor: &Cursor<'_>) -> bool {
+        cursor.sees_any(&[
+            Class::LParen,
+            Class::LBracket,
+            Class::LBrace,
+            Class::Dot,
+            Class::Increment,
+            Class::Decrement,
+        ])
+    }
+
+    ghost filled = { refl };
+}
+
+impl<N: NestedExprs> Parse<Exprs<N>> for SuffixKind {
+    ghost part = { g.rules g.suffix };
+
+    ghost tree = { suffix_kind_tree };
+
+    fn parse(reader: &Exprs<N>, cursor: &mut Cursor<'_>) -> Result<SuffixKind, ParseError> {
+        type Index = (Word<L_BRACKET>, Boxed<Expr>, Word<R_BRACKET>);
+        type Member = (Word<DOT>, Name);
+        type Value = (
+            Word<L_BRACE>,
+            Word<VALUE>,
+            Word<COLON>,
+            Boxed<Expr>,
+            Word<R_BRACE>,
+        );
+        type Step = Either<Word<INCREMENT>, Word<DECREMENT>>;
+        type Forms = Either<Index, Either<Member, Either<Args, Either<Value, Step>>>>;
+        match <Forms as Parse<Exprs<N>>>::parse(reader, cursor)? {
+            First((_, index, _)) => Ok(SuffixKind::Index(index)),
+            Second(First((_, member))) => Ok(SuffixKind::Member(member)),
+            Second(Second(First(args))) => Ok(SuffixKind::Call(args)),
+            Second(Second(Second(First((_, _, _, value, _))))) => Ok(SuffixKind::Value(value)),
+            Second(Second(Second(Second(First(_))))) => Ok(SuffixKind::Increment),
+            Second(Second(Second(Second(Second(_))))) => Ok(SuffixKind::Decrement),
+        }
     }
 }
 
-/// A decimal number with its unit, as `12` or `3 days`.
-fn number(input: &Input<'_>, at: usize) -> Result<((Name, Option<Unit10>), usize), ParseError>
-    requires within { at ≤ length input.now.tokens }
-    ensures reads { Answered (λ n. name n.0 ⊗ optional unit10_tree n.1) (kept k.number ⊙ opt (side g.unit10)) input.now at result }
-    ensures more { IfOk result (λ r. at < r.1) }
-    ensures within { IfOk result (λ r. r.1 ≤ length input.now.tokens) }
-{
-    let (digits, behind) = text(input, at, Class::Number)?;
-    let (unit, to) = optional_unit(input, behind)?;
-    Ok(((digits, unit), to))
+/// The smallest expressions, without `new`.
+impl<N: NestedExprs> Parse<Exprs<N>> for Atom {
+    ghost part = { side g.atom };
+
+    ghost tree = { atom_tree };
+
+    fn parse(reader: &Exprs<N>, cursor: &mut Cursor<'_>) -> Result<Atom, ParseError> {
+        let from = cursor.at();
+        let kind = Parse::parse(reader, cursor)?;
+        let Extent { span, place } = cursor.extent(from);
+        Ok(Atom { kind, span, place })
+    }
 }
 
-/// The unit of a number, if one stands here.
-fn optional_unit(input: &Input<'_>, at: usize) -> Result<(Option<Unit10>, usize), ParseError>
-    requires within { at ≤ length input.now.tokens }
-    ensures reads { Answered (optional unit10_tree) (opt (side g.unit10)) input.now at result }
-    ensures more { IfOk result (λ r. at ≤ r.1) }
-    ensures within { IfOk result (λ r. r.1 ≤ length input.now.tokens) }
+type Asked = (Word<TYPE>, Word<L_PAREN>, Boxed<TypeExpr>, Word<R_PAREN>);
+
+type Paren = (Word<L_PAREN>, Boxed<Expr>, Word<R_PAREN>);
+
+/// The atoms that begin with a word or with `(`.
+type Told = Either<
+    Word<ADDRESS>,
+    Either<Word<PAYABLE>, Either<Asked, Either<Word<SUPER>, Either<Word<THIS>, Paren>>>>,
+>;
+
+/// Truth values, names and elementary types, or an atom of those.
+type Named = Either<Word<TRUE>, Either<Word<FALSE>, Either<Name, Either<Kept<ELEMENTARY>, Told>>>>;
+
+impl<N: NestedExprs> Parse<Exprs<N>> for AtomKind {
+    ghost part = { g.rules g.atom };
+
+    ghost tree = { atom_kind_tree };
+
+    fn parse(reader: &Exprs<N>, cursor: &mut Cursor<'_>) -> Result<AtomKind, ParseError> {
+        type Number = (Kept<NUMBER>, Option<Unit10>);
+        type Strings = Either<Kept<STRING_LITERAL>, Named>;
+        type Forms = Either<Number, Either<Kept<HEXADECIMAL>, Strings>>;
+        match <Forms as Parse<Exprs<N>>>::parse(reader, cursor)? {
+            First((digits, unit)) => Ok(AtomKind::Number {
+                digits: digits.0,
+                unit,
+            }),
+            Second(First(digits)) => Ok(AtomKind::Hexadecimal(digits.0)),
+            Second(Second(First(string))) => Ok(AtomKind::String(string.0)),
+            Second(Second(Second(named))) => Ok(by_name::<N>(named)),
+        }
+    }
+}
+
+fn by_name<N: NestedExprs>(named: Named) -> AtomKind
+    ensures { atom_kind_tree result ≡ last 3 (⟦<Named as Parse<Exprs<N>>>⟧.tree named) }
 {
-    if sees_unit(input, at) {
-        let (unit, to) = number_unit(input, at)?;
-        Ok((Some(unit), to))
-    } else {
-        Ok((None, at))
+    match named {
+        First(_) => AtomKind::True,
+        Second(First(_)) => AtomKind::False,
+        Second(Second(First(name))) => AtomKind::Name(name),
+        Second(Second(Second(First(name)))) => AtomKind::Elementary(name.0),
+        Second(Second(Second(Second(told)))) => by_word::<N>(told),
+    }
+}
+
+fn by_word<N: NestedExprs>(told: Told) -> AtomKind
+    ensures { atom_kind_tree result ≡ last 7 (⟦<Told as Parse<Exprs<N>>>⟧.tree told) }
+{
+    match told {
+        First(_) => AtomKind::Address,
+        Second(First(_)) => AtomKind::Payable,
+        Second(Second(First((_, _, of, _)))) => AtomKind::Type(of),
+        Second(Second(Second(First(_)))) => AtomKind::Super,
+        Second(Second(Second(Second(First(_))))) => AtomKind::This,
+        Second(Second(Second(Second(Second((_, inner, _)))))) => AtomKind::Paren(inner),
     }
 }
 
 /// The unit of a number, as the `days` of `3 days`.
-fn number_unit(input: &Input<'_>, at: usize) -> Result<(Unit10, usize), ParseError>
-    requires within { at ≤ length input.now.tokens }
-    ensures reads { Answered unit10_tree (side g.unit10) input.now at result }
-    ensures more { IfOk result (λ r. at < r.1) }
-    ensures within { IfOk result (λ r. r.1 ≤ length input.now.tokens) }
-{
-    let (kind, to) = unit_kind(input, at)?;
-    let lies = input.extent(at, to);
-    Ok((
-        Unit10 {
-            kind,
-            span: lies.span,
-            place: lies.place,
-        },
-        to,
-    ))
+impl<N: NestedExprs> Parse<Exprs<N>> for Unit10 {
+    ghost part = { side g.unit10 };
+
+    ghost tree = { unit10_tree };
+
+    fn parse(reader: &Exprs<N>, cursor: &mut Cursor<'_>) -> Result<Unit10, ParseError> {
+        let from = cursor.at();
+        let kind = Parse::parse(reader, cursor)?;
+        let Extent { span, place } = cursor.extent(from);
+        Ok(Unit10 { kind, span, place })
+    }
 }
 
-fn unit_kind(input: &Input<'_>, at: usize) -> Result<(Unit10Kind, usize), ParseError>
-    requires within { at ≤ length input.now.tokens }
-    ensures reads { Answered unit10_kind_tree (g.rules g.unit10) input.now at result }
-    ensures more { IfOk result (λ r. at < r.1) }
-    ensures within { IfOk result (λ r. r.1 ≤ length input.now.tokens) }
-{
-    if input.sees(at, Class::Wei) {
-        let to = input.expect(at, Class::Wei)?;
-        Ok((Unit10Kind::Wei, to))
-    } else if input.sees(at, Class::Gwei) {
-        let to = input.expect(at, Class::Gwei)?;
-        Ok((Unit10Kind::Gwei, to))
-    } else if input.sees(at, Class::Ether) {
-        let to = input.expect(at, Class::Ether)?;
-        Ok((Unit10Kind::Ether, to))
-    } else if input.sees(at, Class::Seconds) {
-        let to = input.expect(at, Class::Seconds)?;
-        Ok((Unit10Kind::Seconds, to))
-    } else if input.sees(at, Class::Minutes) {
-        let to = input.expect(at, Class::Minutes)?;
-        Ok((Unit10Kind::Minutes, to))
-    } else if input.sees(at, Class::Hours) {
-        let to = input.expect(at, Class::Hours)?;
-        Ok((Unit10Kind::Hours, to))
-    } else if input.sees(at, Class::Days) {
-        let to = input.expect(at, Class::Days)?;
-        Ok((Unit10Kind::Days, to))
-    } else {
-        let to = input.expect(at, Class::Weeks)?;
-        Ok((Unit10Kind::Weeks, to))
+impl<N: NestedExprs> Begins<Exprs<N>> for Unit10 {
+    fn begins(cursor: &Cursor<'_>) -> bool {
+        cursor.sees_any(&[
+            Class::Days,
+            Class::Ether,
+            Class::Gwei,
+            Class::Hours,
+            Class::Minutes,
+            Class::Seconds,
+            Class::Weeks,
+            Class::Wei,
+        ])
     }
+
+    ghost filled = { refl };
+}
+
+impl<N: NestedExprs> Parse<Exprs<N>> for Unit10Kind {
+    ghost part = { g.rules g.unit10 };
+
+    ghost tree = { unit10_kind_tree };
+
+    fn parse(reader: &Exprs<N>, cursor: &mut Cursor<'_>) -> Result<Unit10Kind, ParseError> {
+        type Ends = Either<Word<HOURS>, Either<Word<DAYS>, Word<WEEKS>>>;
+        type Times = Either<Word<SECONDS>, Either<Word<MINUTES>, Ends>>;
+        type Forms = Either<Word<WEI>, Either<Word<GWEI>, Either<Word<ETHER>, Times>>>;
+        match <Forms as Parse<Exprs<N>>>::parse(reader, cursor)? {
+            First(_) => Ok(Unit10Kind::Wei),
+            Second(First(_)) => Ok(Unit10Kind::Gwei),
+            Second(Second(First(_))) => Ok(Unit10Kind::Ether),
+            Second(Second(Second(First(_)))) => Ok(Unit10Kind::Seconds),
+            Second(Second(Second(Second(First(_))))) => Ok(Unit10Kind::Minutes),
+            Second(Second(Second(Second(Second(First(_)))))) => Ok(Unit10Kind::Hours),
+            Second(Second(Second(Second(Second(Second(First(_))))))) => Ok(Unit10Kind::Days),
+            Second(Second(Second(Second(Second(Second(Second(_))))))) => Ok(Unit10Kind::Weeks),
+        }
+    }
+}
+
+/// Arguments, as `(a, b)` or `({to: a})`.
+impl<N: NestedExprs> Parse<Exprs<N>> for Args {
+    ghost part = { side g.args };
+
+    ghost tree = { args_tree };
+
+    fn parse(reader: &Exprs<N>, cursor: &mut Cursor<'_>) -> Result<Args, ParseError> {
+        let from = cursor.at();
+        let (_, kind) = <(Word<L_PAREN>, ArgsKind) as Parse<Exprs<N>>>::parse(reader, cursor)?;
+        let Extent { span, place } = cursor.extent(from);
+        Ok(Args { kind, span, place })
+    }
+}
+
+impl<N: NestedExprs> Begins<Exprs<N>> for Args {
+    fn begins(cursor: &Cursor<'_>) -> bool {
+        cursor.sees_any(&[Class::LParen])
+    }
+
+    ghost filled = { refl };
+}
+
+/// Arguments in order, with the `)` behind them.
+#[derive(Drop)]
+struct InOrder(Items<Expr>);
+
+impl<N: NestedExprs> Parse<Exprs<N>> for InOrder {
+    ghost part = { opt (listed (side g.expr)) ⊙ quoted k.RParen };
+
+    ghost tree = { λ a. optional_commas (map expr_tree a.0) ⊗ unit };
+
+    fn parse(reader: &Exprs<N>, cursor: &mut Cursor<'_>) -> Result<InOrder, ParseError> {
+        type Parts = (Commas<Expr>, Word<R_PAREN>);
+        let (exprs, _) = <Parts as Parse<Exprs<N>>>::parse(reader, cursor)?;
+        Ok(InOrder(exprs.0))
+    }
+}
+
+impl<N: NestedExprs> Begins<Exprs<N>> for InOrder {
+    fn begins(cursor: &Cursor<'_>) -> bool {
+        sees_expr(cursor) || cursor.sees(Class::RParen)
+    }
+
+    ghost filled = { refl };
+}
+
+impl<N: NestedExprs> Parse<Exprs<N>> for ArgsKind {
+    ghost part = { args_part };
+
+    ghost tree = { args_kind_tree };
+
+    fn parse(reader: &Exprs<N>, cursor: &mut Cursor<'_>) -> Result<ArgsKind, ParseError> {
+        type ByName = (
+            Word<L_BRACE>,
+            Commas<NamedArg>,
+            Word<R_BRACE>,
+            Word<R_PAREN>,
+        );
+        match <Either<InOrder, ByName> as Parse<Exprs<N>>>::parse(reader, cursor)? {
+            First(exprs) => Ok(ArgsKind::Positional(exprs.0)),
+            Second((_, args, _, _)) => Ok(ArgsKind::Named(args.0)),
+        }
+    }
+}
+
+/// An argument by name, as `to: a`.
+impl<N: NestedExprs> Parse<Exprs<N>> for NamedArg {
+    ghost part = { named };
+
+    ghost tree = { named_arg_tree };
+
+    fn parse(reader: &Exprs<N>, cursor: &mut Cursor<'_>) -> Result<NamedArg, ParseError> {
+        type Parts = (Name, Word<COLON>, Expr);
+        let (name, _, value) = <Parts as Parse<Exprs<N>>>::parse(reader, cursor)?;
+        Ok(NamedArg { name, value })
+    }
+}
+
+impl<N: NestedExprs> Begins<Exprs<N>> for NamedArg {
+    fn begins(cursor: &Cursor<'_>) -> bool {
+        cursor.sees_id()
+    }
+
+    ghost filled = { refl };
 }

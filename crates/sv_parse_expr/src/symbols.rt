@@ -1,15 +1,14 @@
 //! The symbols of a list of tokens.
 
-ghost use Rattle.std.specs.Prelude.{◌≡◌, ◌^◌, ◌<◌, length, map, IfOk};
+ghost use Rattle.std.specs.Prelude.{◌^◌, ◌<◌, length, IfOk};
 ghost use Rattle.sv_grammar.specs.Named.{Grows};
-ghost use Rattle.sv_parse_expr.specs.Given.{tokens_of};
-ghost use Rattle.sv_parse_expr.specs.Symbols.{token_by, AreNamed};
+ghost use Rattle.sv_parse_expr.specs.Answers.{AddsTexts};
+ghost use Rattle.sv_parse_expr.specs.Exact.{Show};
 
-use crate::classes::class_of;
-use crate::symbol::Symbol;
 use sqlite_items::Items;
 use std::alloc::Global;
 use sv_lex::Tokens;
+use sv_read::{Symbol, class_of};
 use sv_text::{Names, NoMemory};
 
 /// The symbols of the tokens. Each text that has no name yet gets one.
@@ -19,8 +18,9 @@ pub fn symbols_of(
     names: &mut Names,
 ) -> Result<Items<Symbol>, NoMemory>
     requires { length names.old < 2 ^ 31 }
-    ensures shown { IfOk result (λ xs. (map (token_by names.new) xs ≡ tokens_of tokens.now) × AreNamed names.new xs) }
+    ensures shown { IfOk result (λ xs. Show names.new xs tokens.now) }
     ensures grows { Grows names.old names.new }
+    ensures texts { AddsTexts tokens.now names.old names.new }
 {
     let mut symbols = Items::new(alloc);
     for token in tokens.as_slice() {

@@ -1,2 +1,2 @@
-pub mod Nesting
 pub mod Branches
+pub mod StmtParts

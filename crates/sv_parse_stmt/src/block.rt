@@ -1,175 +1,137 @@
-//! Blocks, and the bodies of branches and loops.
-#![tactic(auto, using(sv_parse_expr::proofs::Reading::reading))]
+//! Statements of every kind, blocks, and the bodies of branches and loops.
+#![tactic(auto, using(sv_read::proofs::Reading::fails_memory))]
 
-ghost use Rattle.std.specs.Prelude.{◌≡◌, ◌<◌, ◌≤◌, drop, length, map, IfOk};
-ghost use Rattle.sv_grammar.specs.Grammar.{elem, side, star, unit};
-ghost use Rattle.sv_grammar.specs.Reading.{next, list_tree};
-ghost use Rattle.sv_ast.specs.Firsts.{firsts};
-ghost use Rattle.sv_ast.specs.Terminals as k;
-ghost use Rattle.sv_ast.specs.Trees.{◌⊗◌};
+ghost use Rattle.std.specs.Prelude.{◌≡◌, [], refl};
+ghost use Rattle.sv_grammar.specs.Grammar.{elem, side};
+ghost use Rattle.sv_ast.specs.Trees.{last};
 ghost use Rattle.sv_ast.specs.Syntax as g;
-ghost use Rattle.sv_ast.specs.Syntax.{quoted, ◌⊙◌};
-ghost use Rattle.sv_ast.specs.SimpleTrees.{simple_tree};
-ghost use Rattle.sv_ast.specs.StmtTrees.{block_tree, body_tree, body_kind_tree, stmt_tree};
-ghost use Rattle.sv_parse_expr.specs.Reading.{Answered};
-ghost use Rattle.sv_parse_stmt.specs.Nesting.{Nests};
+ghost use Rattle.sv_ast.specs.Firsts.{firsts};
+ghost use Rattle.sv_ast.specs.StmtTrees.{block_tree, body_tree, body_kind_tree, for_tree, stmt_tree, stmt_kind_tree, while_tree};
+ghost use Rattle.sv_read.specs.Nesting.{MayRead, leads};
+ghost use Rattle.sv_read.specs.PartReading.{Reads};
+ghost use Rattle.sv_read.specs.EitherTree.{either_tree};
+ghost use Rattle.sv_parse_stmt.specs.StmtParts.{inner};
 
-use crate::simple::read_simple;
-use crate::statements::Statements;
+use crate::reader::{NestedStmts, Statements};
 use sqlite_items::Items;
-use sv_ast::{Block, Body, BodyKind, Simple, Stmt};
-use sv_parse_expr::{Class, Input, ParseError, fail, grow};
+use sv_ast::{Block, Body, BodyKind, For, If, Simple, Stmt, StmtKind, While};
+use sv_read::Either::{self, First, Second};
+use sv_read::words::{L_BRACE, R_BRACE, SEMICOLON, UNCHECKED};
+use sv_read::{Begins, Both, Class, Classes, Cursor, Extent, Parse, ParseError, Word};
 
-/// What a statement may begin with.
-const BEGINS_STMT: [Class; 35] = [
-    Class::Id,
-    Class::Number,
-    Class::Hexadecimal,
-    Class::StringLiteral,
-    Class::Elementary,
-    Class::Note,
-    Class::Address,
-    Class::Break,
-    Class::Continue,
-    Class::Delete,
-    Class::Emit,
-    Class::Error,
-    Class::False,
-    Class::For,
-    Class::If,
-    Class::Mapping,
-    Class::New,
-    Class::Payable,
-    Class::Return,
-    Class::Revert,
-    Class::String,
-    Class::Super,
-    Class::This,
-    Class::True,
-    Class::Type,
-    Class::Unchecked,
-    Class::Value,
-    Class::While,
-    Class::Underscore,
-    Class::LParen,
-    Class::LBrace,
-    Class::Minus,
-    Class::Increment,
-    Class::Decrement,
-    Class::Bang,
+/// A statement of any kind.
+pub fn stmt_rule<N: NestedStmts>(
+    reader: &Statements<N>,
+    cursor: &mut Cursor<'_>,
+) -> Result<Stmt, ParseError>
+    requires { MayRead (N.nests reader.now.nested) (N.floor reader.now.nested) (leads inner (g.rules g.stmt)) cursor.old.at }
+    ensures { Reads stmt_tree (side g.stmt) cursor.old result cursor.new }
+{
+    let from = cursor.at();
+    let kind = Parse::parse(reader, cursor)?;
+    let Extent { span, place } = cursor.extent(from);
+    Ok(Stmt { kind, span, place })
+}
+
+/// No class: what begins alike is told by how far it goes.
+struct Nowhere;
+
+impl Classes for Nowhere {
+    ghost classes = { [] };
+}
+
+impl<N: NestedStmts> Parse<Statements<N>> for StmtKind {
+    ghost part = { g.rules g.stmt };
+
+    ghost tree = { stmt_kind_tree };
+
+    fn parse(reader: &Statements<N>, cursor: &mut Cursor<'_>) -> Result<StmtKind, ParseError> {
+        type Ended = (Simple, Word<SEMICOLON>);
+        type Forms = Either<
+            Block,
+            Either<(Word<UNCHECKED>, Block), Either<Ended, Either<If, Both<Nowhere, While, For>>>>,
+        >;
+        match <Forms as Parse<Statements<N>>>::parse(reader, cursor)? {
+            First(block) => Ok(StmtKind::Block(block)),
+            Second(First((_, block))) => Ok(StmtKind::Unchecked(block)),
+            Second(Second(First((simple, _)))) => Ok(StmtKind::Simple(simple)),
+            Second(Second(Second(First(branches)))) => Ok(StmtKind::If(branches)),
+            Second(Second(Second(Second(repeated)))) => Ok(loop_kind(repeated.way)),
+        }
+    }
+}
+
+/// The kind of a statement that is a loop.
+fn loop_kind(read: Either<While, For>) -> StmtKind
+    ensures { stmt_kind_tree result ≡ last 4 (either_tree while_tree for_tree read) }
+{
+    match read {
+        First(stmt) => StmtKind::While(stmt),
+        Second(stmt) => StmtKind::For(stmt),
+    }
+}
+
+/// What a statement begins with that does not end with `;`.
+#[rattlefmt::skip]
+const COMPOUND: [Class; 6] = [
+    Class::Note, Class::For, Class::If, Class::Unchecked, Class::While, Class::LBrace,
 ];
 
-impl<F: Fn(&Input<'_>, usize) -> Result<(Stmt, usize), ParseError>> Statements<F> {
-    /// Statements in braces, as `{ a = b; f(); }`.
-    pub fn block(&self, input: &Input<'_>, at: usize) -> Result<(Block, usize), ParseError>
-        requires nests { Nests self.now.floor input.now (F.pre self.now.stmt) (F.post self.now.stmt) }
-        requires from { self.now.floor ≤ at }
-        requires within { at ≤ length input.now.tokens }
-        ensures reads { Answered block_tree (side g.block) input.now at result }
-        ensures more { IfOk result (λ r. at < r.1) }
-        ensures within { IfOk result (λ r. r.1 ≤ length input.now.tokens) }
-    {
-        let behind = input.expect(at, Class::LBrace)?;
-        let (stmts, to) = self.stmts(input, behind)?;
-        let lies = input.extent(at, to);
-        Ok((
-            Block {
-                stmts,
-                span: lies.span,
-                place: lies.place,
-            },
-            to,
-        ))
+impl<N: NestedStmts> Begins<Statements<N>> for Stmt {
+    fn begins(cursor: &Cursor<'_>) -> bool {
+        <Simple as Begins<Statements<N>>>::begins(cursor) || cursor.sees_any(&COMPOUND)
     }
 
-    /// Statements up to the `}`, and it.
-    fn stmts(&self, input: &Input<'_>, at: usize) -> Result<(Items<Stmt>, usize), ParseError>
-        requires nests { Nests self.now.floor input.now (F.pre self.now.stmt) (F.post self.now.stmt) }
-        requires behind { self.now.floor < at }
-        requires within { at ≤ length input.now.tokens }
-        ensures reads { Answered (λ ss. list_tree (map stmt_tree ss) ⊗ unit) (star (side g.stmt) ⊙ quoted k.r_brace) input.now at result }
-        ensures more { IfOk result (λ r. at < r.1) }
-        ensures within { IfOk result (λ r. r.1 ≤ length input.now.tokens) }
-    {
-        let (stmts, next) = self.all_stmts(input, at)?;
-        match input.expect(next, Class::RBrace) {
-            Ok(to) => Ok((stmts, to)),
-            Err(e) => Err(fail(stmts, e)),
-        }
-    }
+    ghost filled = { refl };
+}
 
-    fn all_stmts(&self, input: &Input<'_>, at: usize) -> Result<(Items<Stmt>, usize), ParseError>
-        requires nests { Nests self.now.floor input.now (F.pre self.now.stmt) (F.post self.now.stmt) }
-        requires behind { self.now.floor < at }
-        requires within { at ≤ length input.now.tokens }
-        ensures reads { Answered (λ ss. list_tree (map stmt_tree ss)) (star (side g.stmt)) input.now at result }
-        ensures more { IfOk result (λ r. at ≤ r.1) }
-        ensures within { IfOk result (λ r. r.1 ≤ length input.now.tokens) }
-    {
-        let mut stmts = Items::new(input.alloc());
-        let mut now = at;
-        'more: while sees_stmt(input, now) {
-            (stmts, now) = grow(stmts, self.stmt(input, now))?;
-        }
-        Ok((stmts, now))
-    }
+/// Statements in braces, as `{ a = b; f(); }`.
+impl<N: NestedStmts> Parse<Statements<N>> for Block {
+    ghost part = { side g.block };
 
-    /// What is run under a condition or in a loop.
-    pub fn body(&self, input: &Input<'_>, at: usize) -> Result<(Body, usize), ParseError>
-        requires nests { Nests self.now.floor input.now (F.pre self.now.stmt) (F.post self.now.stmt) }
-        requires from { self.now.floor ≤ at }
-        requires within { at ≤ length input.now.tokens }
-        ensures reads { Answered body_tree (side g.body) input.now at result }
-        ensures more { IfOk result (λ r. at < r.1) }
-        ensures within { IfOk result (λ r. r.1 ≤ length input.now.tokens) }
-    {
-        let (kind, to) = self.body_kind(input, at)?;
-        let lies = input.extent(at, to);
-        Ok((
-            Body {
-                kind,
-                span: lies.span,
-                place: lies.place,
-            },
-            to,
-        ))
-    }
+    ghost tree = { block_tree };
 
-    fn body_kind(&self, input: &Input<'_>, at: usize) -> Result<(BodyKind, usize), ParseError>
-        requires nests { Nests self.now.floor input.now (F.pre self.now.stmt) (F.post self.now.stmt) }
-        requires from { self.now.floor ≤ at }
-        requires within { at ≤ length input.now.tokens }
-        ensures reads { Answered body_kind_tree (g.rules g.body) input.now at result }
-        ensures more { IfOk result (λ r. at < r.1) }
-        ensures within { IfOk result (λ r. r.1 ≤ length input.now.tokens) }
-    {
-        if input.sees(at, Class::LBrace) {
-            let (block, to) = self.block(input, at)?;
-            Ok((BodyKind::Block(block), to))
-        } else {
-            let (simple, to) = ended_simple(input, at)?;
-            Ok((BodyKind::Simple(simple), to))
-        }
+    fn parse(reader: &Statements<N>, cursor: &mut Cursor<'_>) -> Result<Block, ParseError> {
+        let from = cursor.at();
+        type Parts = (Word<L_BRACE>, Items<Stmt>, Word<R_BRACE>);
+        let (_, stmts, _) = <Parts as Parse<Statements<N>>>::parse(reader, cursor)?;
+        let Extent { span, place } = cursor.extent(from);
+        Ok(Block { stmts, span, place })
     }
 }
 
-/// Whether a statement may begin here.
-fn sees_stmt(input: &Input<'_>, at: usize) -> bool
-    ensures { result ≡ elem (next (drop at input.now.tokens)) (firsts g.stmt) }
-{
-    input.sees_any(at, &BEGINS_STMT)
+impl<N: NestedStmts> Begins<Statements<N>> for Block {
+    fn begins(cursor: &Cursor<'_>) -> bool {
+        cursor.sees(Class::LBrace)
+    }
+
+    ghost filled = { refl };
 }
 
-/// A statement that ends with `;`, with it.
-pub fn ended_simple(input: &Input<'_>, at: usize) -> Result<(Simple, usize), ParseError>
-    requires within { at ≤ length input.now.tokens }
-    ensures reads { Answered (λ s. simple_tree s ⊗ unit) (side g.simple ⊙ quoted k.semicolon) input.now at result }
-    ensures more { IfOk result (λ r. at < r.1) }
-    ensures within { IfOk result (λ r. r.1 ≤ length input.now.tokens) }
-{
-    let (simple, next) = read_simple(input, at)?;
-    match input.expect(next, Class::Semicolon) {
-        Ok(to) => Ok((simple, to)),
-        Err(e) => Err(fail(simple, e)),
+/// What is run under a condition or in a loop.
+impl<N: NestedStmts> Parse<Statements<N>> for Body {
+    ghost part = { side g.body };
+
+    ghost tree = { body_tree };
+
+    fn parse(reader: &Statements<N>, cursor: &mut Cursor<'_>) -> Result<Body, ParseError> {
+        let from = cursor.at();
+        let kind = Parse::parse(reader, cursor)?;
+        let Extent { span, place } = cursor.extent(from);
+        Ok(Body { kind, span, place })
+    }
+}
+
+impl<N: NestedStmts> Parse<Statements<N>> for BodyKind {
+    ghost part = { g.rules g.body };
+
+    ghost tree = { body_kind_tree };
+
+    fn parse(reader: &Statements<N>, cursor: &mut Cursor<'_>) -> Result<BodyKind, ParseError> {
+        type Forms = Either<Block, (Simple, Word<SEMICOLON>)>;
+        match <Forms as Parse<Statements<N>>>::parse(reader, cursor)? {
+            First(block) => Ok(BodyKind::Block(block)),
+            Second((simple, _)) => Ok(BodyKind::Simple(simple)),
+        }
     }
 }

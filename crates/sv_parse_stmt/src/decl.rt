@@ -1,59 +1,94 @@
-//! Declarations of variables.
-#![tactic(auto, using(sv_parse_expr::proofs::Reading::reading))]
+//! Declarations of variables, and where their values lie.
+#![tactic(auto, using(sv_read::proofs::Reading::fails_memory))]
 
-ghost use Rattle.std.specs.Prelude.{◌≡◌, ◌<◌, ◌≤◌, length, IfOk};
-ghost use Rattle.sv_grammar.specs.Grammar.{name, opt, side, unit};
-ghost use Rattle.sv_ast.specs.Terminals as k;
-ghost use Rattle.sv_ast.specs.Trees.{◌⊗◌, optional};
+ghost use Rattle.std.specs.Prelude.{◌≡◌, false, refl};
+ghost use Rattle.sv_grammar.specs.Grammar.{elem, side};
 ghost use Rattle.sv_ast.specs.Syntax as g;
-ghost use Rattle.sv_ast.specs.Syntax.{quoted, id, ◌⊙◌};
-ghost use Rattle.sv_ast.specs.ExprTrees.{expr_tree};
-ghost use Rattle.sv_ast.specs.SimpleTrees.{decl_tree, location_tree};
-ghost use Rattle.sv_parse_expr.specs.Reading.{Answered};
+ghost use Rattle.sv_ast.specs.SimpleTrees.{decl_tree, location_tree, location_kind_tree};
+ghost use Rattle.sv_read.specs.PartReading.{Reads};
 
-use crate::location::{optional_location, optional_value};
-use sv_ast::{Decl, Expr, Where};
-use sv_parse_expr::{Input, ParseError, fail, read_type};
+use crate::reader::{NestedStmts, Statements};
+use sv_ast::{Decl, Expr, TypeExpr, Where, WhereKind};
+use sv_read::Either::{self, First, Second};
+use sv_read::words::{CALLDATA, EQUALS, MEMORY, STORAGE};
+use sv_read::{Begins, Class, Cursor, Extent, Nested, Parse, ParseError, Word, behind};
 use sv_text::Name;
 
-/// A declaration, as `uint256[] memory a = b`, from a position on.
-pub fn read_decl(input: &Input<'_>, at: usize) -> Result<(Decl, usize), ParseError>
-    requires within { at ≤ length input.now.tokens }
-    ensures reads { Answered decl_tree (side g.decl) input.now at result }
-    ensures more { IfOk result (λ r. at < r.1) }
-    ensures within { IfOk result (λ r. r.1 ≤ length input.now.tokens) }
-{
-    let (of_type, next) = read_type(input, at)?;
-    let ((location, name, value), to) = match behind_type(input, next) {
-        Ok(read) => read,
-        Err(e) => return Err(fail(of_type, e)),
-    };
-    let lies = input.extent(at, to);
-    Ok((
-        Decl {
+/// A declaration of a variable, as `uint256[] memory a = b`.
+impl<N: NestedStmts> Parse<Statements<N>> for Decl {
+    ghost part = { side g.decl };
+
+    ghost tree = { decl_tree };
+
+    fn parse(reader: &Statements<N>, cursor: &mut Cursor<'_>) -> Result<Decl, ParseError> {
+        let from = cursor.at();
+        type Parts = (TypeExpr, Option<Where>, Name, Option<(Word<EQUALS>, Expr)>);
+        let (of_type, location, name, value) = <Parts as Parse<Statements<N>>>::parse(
+            reader, cursor,
+        )?;
+        let Extent { span, place } = cursor.extent(from);
+        Ok(Decl {
             of_type,
             location,
             name,
-            value,
-            span: lies.span,
-            place: lies.place,
-        },
-        to,
-    ))
+            value: behind(value),
+            span,
+            place,
+        })
+    }
 }
 
-/// What follows the type of a declaration.
-fn behind_type(
-    input: &Input<'_>,
-    at: usize,
-) -> Result<((Option<Where>, Name, Option<Expr>), usize), ParseError>
-    requires within { at ≤ length input.now.tokens }
-    ensures reads { Answered (λ d. optional location_tree d.0 ⊗ name d.1 ⊗ optional (λ e. unit ⊗ expr_tree e) d.2) (opt (side g.location) ⊙ id ⊙ opt (quoted k.equals ⊙ side g.expr)) input.now at result }
-    ensures more { IfOk result (λ r. at < r.1) }
-    ensures within { IfOk result (λ r. r.1 ≤ length input.now.tokens) }
+/// Where a value lies, as `memory`.
+impl<N: NestedStmts> Parse<Statements<N>> for Where {
+    ghost part = { side g.location };
+
+    ghost tree = { location_tree };
+
+    fn parse(_reader: &Statements<N>, cursor: &mut Cursor<'_>) -> Result<Where, ParseError> {
+        read_location(cursor)
+    }
+}
+
+impl<N: NestedStmts> Begins<Statements<N>> for Where {
+    fn begins(cursor: &Cursor<'_>) -> bool {
+        cursor.sees_any(&[Class::Calldata, Class::Memory, Class::Storage])
+    }
+
+    ghost filled = { refl };
+}
+
+/// Who reads where nothing nests.
+struct Alone;
+
+impl Nested for Alone {
+    ghost inner = { λ _. false };
+
+    ghost floor = { λ _. 0 };
+
+    ghost nests = { λ _. Unit {0} };
+}
+
+/// Where a value lies, as `memory`.
+pub fn read_location(cursor: &mut Cursor<'_>) -> Result<Where, ParseError>
+    ensures { Reads location_tree (side g.location) cursor.old result cursor.new }
 {
-    let (location, next) = optional_location(input, at)?;
-    let (name, behind) = input.id(next)?;
-    let (value, to) = optional_value(input, behind)?;
-    Ok(((location, name, value), to))
+    let from = cursor.at();
+    let kind = Parse::parse(&Alone, cursor)?;
+    let Extent { span, place } = cursor.extent(from);
+    Ok(Where { kind, span, place })
+}
+
+impl Parse<Alone> for WhereKind {
+    ghost part = { g.rules g.location };
+
+    ghost tree = { location_kind_tree };
+
+    fn parse(reader: &Alone, cursor: &mut Cursor<'_>) -> Result<WhereKind, ParseError> {
+        type Forms = Either<Word<STORAGE>, Either<Word<MEMORY>, Word<CALLDATA>>>;
+        match <Forms as Parse<Alone>>::parse(reader, cursor)? {
+            First(_) => Ok(WhereKind::Storage),
+            Second(First(_)) => Ok(WhereKind::Memory),
+            Second(Second(_)) => Ok(WhereKind::Calldata),
+        }
+    }
 }

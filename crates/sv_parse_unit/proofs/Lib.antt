@@ -1,3 +1,3 @@
-pub mod Declarations
-pub mod Units
+pub mod FirstSets
+pub mod LeftOut
 pub mod Whole

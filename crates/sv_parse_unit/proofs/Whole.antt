@@ -52,10 +52,10 @@ fault_is text names NoMemory p = tt
 
 pub whole_is : (text : Scanned) (names : List (List ℕ)) (u : UnitNode) (to : ℕ) (r : Result UnitNode ParseFault)
     → Reaches rules (side s.unit) (tokens_of text) 0 to → IsTreeOf names (side s.unit) (between (tokens_of text) 0 to) (unit_tree u)
-    → IfOk r (λ x. (x ≡ u) × (length text.list ≤ to)) → IfErr r (λ e. (to < length text.list) × (e ≡ Syntax (place_of_token text to)))
+    → IfOk r (λ x. (x ≡ u) × (length text.list ≤ to)) → IfErr r (λ _. to < length text.list) → IfErr r (λ e. e ≡ Syntax (place_of_token text to))
     → AnswersUnit text names r
-whole_is text names u to (Ok x) reached is ok err =
+whole_is text names u to (Ok x) reached is ok left err =
     let n = length-map text.list (token_of text.source) in
     let h = ok.1 in
     rw ok.0 (subst (λ us. IsTreeOf names (side s.unit) us (unit_tree u)) (all_between (tokens_of text) to (omega arith)) is)
-whole_is text names u to (Err e) reached is ok err = rw err.1 (none_beyond text to reached err.0, to, reached, refl)
+whole_is text names u to (Err e) reached is ok left err = rw err (none_beyond text to reached left, to, reached, refl)

@@ -1,4 +1,4 @@
--- What the parser of whole texts answers.
+-- Believed: what the parser of whole texts answers. Hold it against docs/grammar.md, and what the README promises of a fault.
 use Rattle.std.specs.Prelude.{◌≡◌, ℕ, List, Result, Ok, Err}
 use Rattle.sv_grammar.specs.Grammar.{Tree, Derives, side}
 use Rattle.sv_grammar.specs.Reach.{Reaches}

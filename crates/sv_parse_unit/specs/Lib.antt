@@ -1,2 +1,1 @@
 pub mod AnswersUnit
-pub mod Parts

@@ -1,259 +1,340 @@
-//! Functions, with a name and without.
+//! Functions, with a name and without, and modifiers.
 
-ghost use Rattle.std.specs.Prelude.{◌≡◌, ◌<◌, ◌≤◌, [], ◌∷◌, length, map, IfOk};
-ghost use Rattle.sv_grammar.specs.Grammar.{name, opt, side, star, text, unit};
-ghost use Rattle.sv_grammar.specs.Reading.{list_tree};
-ghost use Rattle.sv_ast.specs.Terminals as k;
-ghost use Rattle.sv_ast.specs.Trees.{◌⊗◌, optional};
+ghost use Rattle.std.specs.Prelude.{◌≡◌, ◌∷◌, [], map, refl};
+ghost use Rattle.sv_grammar.specs.Grammar.{elem, name, opt, side, text};
+ghost use Rattle.sv_ast.specs.declared.class.Class.TheVariants as k;
 ghost use Rattle.sv_ast.specs.Syntax as g;
-ghost use Rattle.sv_ast.specs.Syntax.{quoted, id, ◌⊙◌, ◌∣◌};
-ghost use Rattle.sv_ast.specs.StmtTrees.{block_tree};
-ghost use Rattle.sv_ast.specs.ContractTrees.{function_tree, function_body_tree, ctor_tree, special_tree, head_tree, params_tree};
-ghost use Rattle.sv_parse_expr.specs.Reading.{Answered};
+ghost use Rattle.sv_ast.specs.Syntax.{id, listed, quoted, ◌⊙◌, ◌∣◌};
+ghost use Rattle.sv_ast.specs.ContractTrees.{ctor_tree, function_body_tree, function_tree, head_kind_tree, head_tree, modifier_tree, modifier_word_tree, over_names_tree, over_tree, param_tree, params_tree, special_tree};
+ghost use Rattle.sv_ast.specs.Terminals.{code};
+ghost use Rattle.sv_ast.specs.Trees.{last};
 
-use crate::head::read_heads;
-use crate::params::read_params;
+use crate::reader::{Units, placed};
 use sqlite_items::Items;
-use sv_ast::{Block, Ctor, Function, Head, Params, Special};
-use sv_notes::note_lines;
-use sv_parse_expr::{Class, Input, ParseError, fail};
-use sv_parse_stmt::read_block;
+use sv_ast::{
+    Args, Block, Ctor, Function, Head, HeadKind, Modifier, ModifierWord, Note, Over, Param, Params,
+    Special,
+};
+use sv_parse_expr::sees_type;
+use sv_read::Either::{self, First, Second};
+use sv_read::words::{
+    CONSTRUCTOR, EXTERNAL, FUNCTION, INTERNAL, L_PAREN, MODIFIER, OVERRIDE, PAYABLE, PRIVATE,
+    PUBLIC, PURE, R_PAREN, RETURNS, SEMICOLON, VIEW, VIRTUAL,
+};
+use sv_read::{Begins, Class, Commas, Cursor, Listed, Parse, ParseError, Word, behind};
 use sv_text::Name;
 
-/// A function without its annotation lines.
-#[derive(Drop)]
-struct Bare {
-    name: Name,
-    params: Params,
-    heads: Items<Head>,
-    results: Option<Params>,
-    body: Option<Block>,
-}
+/// A function, as `function f(uint256 a) public returns (uint256) { .. }`; without a body it ends with `;`.
+impl Parse<Units> for Function {
+    ghost part = { side g.function };
 
-/// A function, as `function f() public { .. }`.
-pub fn read_function(input: &Input<'_>, at: usize) -> Result<(Function, usize), ParseError>
-    requires within { at ≤ length input.now.tokens }
-    ensures reads { Answered function_tree (side g.function) input.now at result }
-    ensures more { IfOk result (λ r. at < r.1) }
-    ensures within { IfOk result (λ r. r.1 ≤ length input.now.tokens) }
-{
-    let (notes, next) = note_lines(input, at)?;
-    let (bare, to) = match bare_function(input, next) {
-        Ok(read) => read,
-        Err(e) => return Err(fail(notes, e)),
-    };
-    let lies = input.extent(at, to);
-    let Bare {
-        name,
-        params,
-        heads,
-        results,
-        body,
-    } = bare;
-    Ok((
-        Function {
+    ghost tree = { function_tree };
+
+    fn parse(reader: &Units, cursor: &mut Cursor<'_>) -> Result<Function, ParseError> {
+        type Results = Option<(Word<RETURNS>, Params)>;
+        type End = (Items<Head>, Results, Body);
+        type Parts = (Items<Note>, Word<FUNCTION>, Name, Params, End);
+        let ((notes, _, name, params, end), span, place) = placed::<Parts>(reader, cursor)?;
+        Ok(Function {
             notes,
             name,
             params,
-            heads,
-            results,
-            body,
-            span: lies.span,
-            place: lies.place,
-        },
-        to,
-    ))
-}
-
-fn bare_function(input: &Input<'_>, at: usize) -> Result<(Bare, usize), ParseError>
-    requires within { at ≤ length input.now.tokens }
-    ensures reads { Answered (λ f. unit ⊗ name f.name ⊗ params_tree f.params ⊗ list_tree (map head_tree f.heads) ⊗ optional (λ p. unit ⊗ params_tree p) f.results ⊗ function_body_tree f.body) (quoted k.function ⊙ id ⊙ side g.params ⊙ star (side g.head) ⊙ opt (quoted k.returns ⊙ side g.params) ⊙ (side g.block ∣ quoted k.semicolon)) input.now at result }
-    ensures more { IfOk result (λ r. at < r.1) }
-    ensures within { IfOk result (λ r. r.1 ≤ length input.now.tokens) }
-{
-    let behind = input.expect(at, Class::Function)?;
-    let (name, open) = input.id(behind)?;
-    let (params, next) = read_params(input, open)?;
-    let (heads, last) = match read_heads(input, next) {
-        Ok(read) => read,
-        Err(e) => return Err(fail(params, e)),
-    };
-    let ((results, body), to) = match results_and_body(input, last) {
-        Ok(read) => read,
-        Err(e) => return Err(fail((params, heads), e)),
-    };
-    Ok((
-        Bare {
-            name,
-            params,
-            heads,
-            results,
-            body,
-        },
-        to,
-    ))
-}
-
-/// What a function returns, if it returns anything, and its body, if it has one.
-fn results_and_body(
-    input: &Input<'_>,
-    at: usize,
-) -> Result<((Option<Params>, Option<Block>), usize), ParseError>
-    requires within { at ≤ length input.now.tokens }
-    ensures reads { Answered (λ f. optional (λ p. unit ⊗ params_tree p) f.0 ⊗ function_body_tree f.1) (opt (quoted k.returns ⊙ side g.params) ⊙ (side g.block ∣ quoted k.semicolon)) input.now at result }
-    ensures more { IfOk result (λ r. at < r.1) }
-    ensures within { IfOk result (λ r. r.1 ≤ length input.now.tokens) }
-{
-    let (results, next) = optional_results(input, at)?;
-    let (body, to) = match function_body(input, next) {
-        Ok(read) => read,
-        Err(e) => return Err(fail(results, e)),
-    };
-    Ok(((results, body), to))
-}
-
-fn optional_results(input: &Input<'_>, at: usize) -> Result<(Option<Params>, usize), ParseError>
-    requires within { at ≤ length input.now.tokens }
-    ensures reads { Answered (optional (λ p. unit ⊗ params_tree p)) (opt (quoted k.returns ⊙ side g.params)) input.now at result }
-    ensures more { IfOk result (λ r. at ≤ r.1) }
-    ensures within { IfOk result (λ r. r.1 ≤ length input.now.tokens) }
-{
-    if input.sees(at, Class::Returns) {
-        let (results, to) = read_results(input, at)?;
-        Ok((Some(results), to))
-    } else {
-        Ok((None, at))
+            heads: end.0,
+            results: behind(end.1),
+            body: body_of(end.2),
+            span,
+            place,
+        })
     }
 }
 
-/// What a function returns, as `returns (uint256)`.
-fn read_results(input: &Input<'_>, at: usize) -> Result<(Params, usize), ParseError>
-    requires within { at ≤ length input.now.tokens }
-    ensures reads { Answered (λ p. unit ⊗ params_tree p) (quoted k.returns ⊙ side g.params) input.now at result }
-    ensures more { IfOk result (λ r. at < r.1) }
-    ensures within { IfOk result (λ r. r.1 ≤ length input.now.tokens) }
-{
-    let behind = input.expect(at, Class::Returns)?;
-    read_params(input, behind)
-}
+type Body = Either<Block, Word<SEMICOLON>>;
 
-/// The body of a function, or the `;` in its place.
-fn function_body(input: &Input<'_>, at: usize) -> Result<(Option<Block>, usize), ParseError>
-    requires within { at ≤ length input.now.tokens }
-    ensures reads { Answered function_body_tree (side g.block ∣ quoted k.semicolon) input.now at result }
-    ensures more { IfOk result (λ r. at < r.1) }
-    ensures within { IfOk result (λ r. r.1 ≤ length input.now.tokens) }
+/// The body of a function, if it has one.
+fn body_of(read: Body) -> Option<Block>
+    ensures { function_body_tree result ≡ ⟦<Body as Parse<Units>>⟧.tree read }
 {
-    if input.sees(at, Class::LBrace) {
-        let (body, to) = read_block(input, at)?;
-        Ok((Some(body), to))
-    } else {
-        let to = input.expect(at, Class::Semicolon)?;
-        Ok((None, to))
+    match read {
+        First(body) => Some(body),
+        Second(_) => None,
     }
 }
 
-/// A constructor, as `constructor() { .. }`.
-pub fn read_ctor(input: &Input<'_>, at: usize) -> Result<(Ctor, usize), ParseError>
-    requires within { at ≤ length input.now.tokens }
-    ensures reads { Answered ctor_tree (side g.ctor) input.now at result }
-    ensures more { IfOk result (λ r. at < r.1) }
-    ensures within { IfOk result (λ r. r.1 ≤ length input.now.tokens) }
-{
-    let (notes, next) = note_lines(input, at)?;
-    let ((params, heads, body), to) = match bare_ctor(input, next) {
-        Ok(read) => read,
-        Err(e) => return Err(fail(notes, e)),
-    };
-    let lies = input.extent(at, to);
-    Ok((
-        Ctor {
+/// A constructor, as `constructor(uint256 a) B(a) { .. }`.
+impl Parse<Units> for Ctor {
+    ghost part = { side g.ctor };
+
+    ghost tree = { ctor_tree };
+
+    fn parse(reader: &Units, cursor: &mut Cursor<'_>) -> Result<Ctor, ParseError> {
+        type Parts = (Items<Note>, Word<CONSTRUCTOR>, Params, Items<Head>, Block);
+        let ((notes, _, params, heads, body), span, place) = placed::<Parts>(reader, cursor)?;
+        Ok(Ctor {
             notes,
             params,
             heads,
             body,
-            span: lies.span,
-            place: lies.place,
-        },
-        to,
-    ))
-}
-
-/// A constructor without its annotation lines.
-fn bare_ctor(
-    input: &Input<'_>,
-    at: usize,
-) -> Result<((Params, Items<Head>, Block), usize), ParseError>
-    requires within { at ≤ length input.now.tokens }
-    ensures reads { Answered (λ c. unit ⊗ params_tree c.0 ⊗ list_tree (map head_tree c.1) ⊗ block_tree c.2) (quoted k.constructor ⊙ side g.params ⊙ star (side g.head) ⊙ side g.block) input.now at result }
-    ensures more { IfOk result (λ r. at < r.1) }
-    ensures within { IfOk result (λ r. r.1 ≤ length input.now.tokens) }
-{
-    let behind = input.expect(at, Class::Constructor)?;
-    let (params, next) = read_params(input, behind)?;
-    let ((heads, body), to) = match heads_and_block(input, next) {
-        Ok(read) => read,
-        Err(e) => return Err(fail(params, e)),
-    };
-    Ok(((params, heads, body), to))
+            span,
+            place,
+        })
+    }
 }
 
 /// A function without a name, as `receive() external payable { .. }`.
-pub fn read_special(input: &Input<'_>, at: usize) -> Result<(Special, usize), ParseError>
-    requires within { at ≤ length input.now.tokens }
-    ensures reads { Answered special_tree (side g.special) input.now at result }
-    ensures more { IfOk result (λ r. at < r.1) }
-    ensures within { IfOk result (λ r. r.1 ≤ length input.now.tokens) }
-{
-    let (notes, next) = note_lines(input, at)?;
-    let ((word, heads, body), to) = match bare_special(input, next) {
-        Ok(read) => read,
-        Err(e) => return Err(fail(notes, e)),
-    };
-    let lies = input.extent(at, to);
-    Ok((
-        Special {
+impl Parse<Units> for Special {
+    ghost part = { side g.special };
+
+    ghost tree = { special_tree };
+
+    fn parse(reader: &Units, cursor: &mut Cursor<'_>) -> Result<Special, ParseError> {
+        type End = (Word<L_PAREN>, Word<R_PAREN>, Items<Head>, Block);
+        let ((notes, word, end), span, place) = placed::<(Items<Note>, SpecialWord, End)>(
+            reader, cursor,
+        )?;
+        Ok(Special {
             notes,
-            word,
-            heads,
+            word: word.0,
+            heads: end.2,
+            body: end.3,
+            span,
+            place,
+        })
+    }
+}
+
+impl Begins<Units> for Special {
+    ghost filled = { refl };
+
+    fn begins(cursor: &Cursor<'_>) -> bool {
+        cursor.sees_any(&[Class::Note, Class::Fallback, Class::Receive])
+    }
+}
+
+/// The keyword of a function without a name.
+#[derive(Drop)]
+struct SpecialWord(Name);
+
+impl Parse<Units> for SpecialWord {
+    ghost part = { text (map code (k.Receive ∷ k.Fallback ∷ [])) };
+
+    ghost tree = { λ w. name w.0 };
+
+    fn parse(_reader: &Units, cursor: &mut Cursor<'_>) -> Result<SpecialWord, ParseError> {
+        Ok(SpecialWord(cursor.text(&[Class::Receive, Class::Fallback])?))
+    }
+}
+
+/// A modifier, as `modifier m(uint256 a) virtual { _; }`.
+impl Parse<Units> for Modifier {
+    ghost part = { side g.modifier };
+
+    ghost tree = { modifier_tree };
+
+    fn parse(reader: &Units, cursor: &mut Cursor<'_>) -> Result<Modifier, ParseError> {
+        type Parts = (
+            Word<MODIFIER>,
+            Name,
+            Option<Params>,
+            Items<ModifierWord>,
+            Block,
+        );
+        let ((_, name, params, words, body), span, place) = placed::<Parts>(reader, cursor)?;
+        Ok(Modifier {
+            name,
+            params,
+            words,
             body,
-            span: lies.span,
-            place: lies.place,
-        },
-        to,
-    ))
+            span,
+            place,
+        })
+    }
 }
 
-/// A function without a name and without its annotation lines.
-fn bare_special(
-    input: &Input<'_>,
-    at: usize,
-) -> Result<((Name, Items<Head>, Block), usize), ParseError>
-    requires within { at ≤ length input.now.tokens }
-    ensures reads { Answered (λ s. name s.0 ⊗ unit ⊗ unit ⊗ list_tree (map head_tree s.1) ⊗ block_tree s.2) (text (k.receive ∷ k.fallback ∷ []) ⊙ quoted k.l_paren ⊙ quoted k.r_paren ⊙ star (side g.head) ⊙ side g.block) input.now at result }
-    ensures more { IfOk result (λ r. at < r.1) }
-    ensures within { IfOk result (λ r. r.1 ≤ length input.now.tokens) }
-{
-    let (word, open) = input.text(at, &[Class::Receive, Class::Fallback])?;
-    let close = input.expect(open, Class::LParen)?;
-    let next = input.expect(close, Class::RParen)?;
-    let ((heads, body), to) = heads_and_block(input, next)?;
-    Ok(((word, heads, body), to))
+impl Begins<Units> for Modifier {
+    ghost filled = { refl };
+
+    fn begins(cursor: &Cursor<'_>) -> bool {
+        cursor.sees(Class::Modifier)
+    }
 }
 
-fn heads_and_block(
-    input: &Input<'_>,
-    at: usize,
-) -> Result<((Items<Head>, Block), usize), ParseError>
-    requires within { at ≤ length input.now.tokens }
-    ensures reads { Answered (λ f. list_tree (map head_tree f.0) ⊗ block_tree f.1) (star (side g.head) ⊙ side g.block) input.now at result }
-    ensures more { IfOk result (λ r. at < r.1) }
-    ensures within { IfOk result (λ r. r.1 ≤ length input.now.tokens) }
+type ModifierWords = Either<Word<VIRTUAL>, Over>;
+
+impl Parse<Units> for ModifierWord {
+    ghost part = { quoted k.Virtual ∣ side g.over };
+
+    ghost tree = { modifier_word_tree };
+
+    fn parse(reader: &Units, cursor: &mut Cursor<'_>) -> Result<ModifierWord, ParseError> {
+        match <ModifierWords as Parse<Units>>::parse(reader, cursor)? {
+            First(_) => Ok(ModifierWord::Virtual),
+            Second(over) => Ok(ModifierWord::Over(over)),
+        }
+    }
+}
+
+impl Begins<Units> for ModifierWord {
+    ghost filled = { refl };
+
+    fn begins(cursor: &Cursor<'_>) -> bool {
+        <ModifierWords as Begins<Units>>::begins(cursor)
+    }
+}
+
+/// Parameters in parentheses, as `(uint256 a, bool)`.
+impl Parse<Units> for Params {
+    ghost part = { side g.params };
+
+    ghost tree = { params_tree };
+
+    fn parse(reader: &Units, cursor: &mut Cursor<'_>) -> Result<Params, ParseError> {
+        type Parts = (Word<L_PAREN>, Commas<Param>, Word<R_PAREN>);
+        let ((_, params, _), span, place) = placed::<Parts>(reader, cursor)?;
+        Ok(Params {
+            params: params.0,
+            span,
+            place,
+        })
+    }
+}
+
+impl Begins<Units> for Params {
+    ghost filled = { refl };
+
+    fn begins(cursor: &Cursor<'_>) -> bool {
+        cursor.sees(Class::LParen)
+    }
+}
+
+/// A parameter, as `uint256[] memory a`.
+impl Parse<Units> for Param {
+    ghost part = { side g.param };
+
+    ghost tree = { param_tree };
+
+    fn parse(reader: &Units, cursor: &mut Cursor<'_>) -> Result<Param, ParseError> {
+        let ((of_type, location, name), span, place) = placed(reader, cursor)?;
+        Ok(Param {
+            of_type,
+            location,
+            name,
+            span,
+            place,
+        })
+    }
+}
+
+impl Begins<Units> for Param {
+    ghost filled = { refl };
+
+    fn begins(cursor: &Cursor<'_>) -> bool {
+        sees_type(cursor)
+    }
+}
+
+/// A word of a function, or a modifier or a base that it uses.
+impl Parse<Units> for Head {
+    ghost part = { side g.head };
+
+    ghost tree = { head_tree };
+
+    fn parse(reader: &Units, cursor: &mut Cursor<'_>) -> Result<Head, ParseError> {
+        let (kind, span, place) = placed(reader, cursor)?;
+        Ok(Head { kind, span, place })
+    }
+}
+
+/// A word that says who may call a function.
+type Heads = Either<
+    Word<PUBLIC>,
+    Either<Word<PRIVATE>, Either<Word<INTERNAL>, Either<Word<EXTERNAL>, Others>>>,
+>;
+
+/// Another word of a function.
+type Others = Either<
+    Word<PURE>,
+    Either<
+        Word<VIEW>,
+        Either<Word<PAYABLE>, Either<Word<VIRTUAL>, Either<Over, (Name, Option<Args>)>>>,
+    >,
+>;
+
+impl Begins<Units> for Head {
+    ghost filled = { refl };
+
+    fn begins(cursor: &Cursor<'_>) -> bool {
+        <Heads as Begins<Units>>::begins(cursor)
+    }
+}
+
+impl Parse<Units> for HeadKind {
+    ghost part = { g.rules g.head };
+
+    ghost tree = { head_kind_tree };
+
+    fn parse(reader: &Units, cursor: &mut Cursor<'_>) -> Result<HeadKind, ParseError> {
+        match <Heads as Parse<Units>>::parse(reader, cursor)? {
+            First(_) => Ok(HeadKind::Public),
+            Second(First(_)) => Ok(HeadKind::Private),
+            Second(Second(First(_))) => Ok(HeadKind::Internal),
+            Second(Second(Second(First(_)))) => Ok(HeadKind::External),
+            Second(Second(Second(Second(other)))) => Ok(other_kind(other)),
+        }
+    }
+}
+
+/// A word of a function that doesn't say who may call it.
+fn other_kind(other: Others) -> HeadKind
+    ensures { head_kind_tree result ≡ last 4 (⟦<Others as Parse<Units>>⟧.tree other) }
 {
-    let (heads, next) = read_heads(input, at)?;
-    let (body, to) = match read_block(input, next) {
-        Ok(read) => read,
-        Err(e) => return Err(fail(heads, e)),
-    };
-    Ok(((heads, body), to))
+    match other {
+        First(_) => HeadKind::Pure,
+        Second(First(_)) => HeadKind::View,
+        Second(Second(First(_))) => HeadKind::Payable,
+        Second(Second(Second(First(_)))) => HeadKind::Virtual,
+        Second(Second(Second(Second(First(over))))) => HeadKind::Over(over),
+        Second(Second(Second(Second(Second((name, args)))))) => HeadKind::Use { name, args },
+    }
+}
+
+/// `override`, with names as in `override(A, B)`, or without.
+impl Parse<Units> for Over {
+    ghost part = { side g.over };
+
+    ghost tree = { over_tree };
+
+    fn parse(reader: &Units, cursor: &mut Cursor<'_>) -> Result<Over, ParseError> {
+        let ((_, names), span, place) = placed::<(Word<OVERRIDE>, Names)>(reader, cursor)?;
+        Ok(Over {
+            names: names.0,
+            span,
+            place,
+        })
+    }
+}
+
+impl Begins<Units> for Over {
+    ghost filled = { refl };
+
+    fn begins(cursor: &Cursor<'_>) -> bool {
+        cursor.sees(Class::Override)
+    }
+}
+
+/// Names in brackets, as `(A, B)`, or nothing.
+#[derive(Drop)]
+struct Names(Items<Name>);
+
+impl Parse<Units> for Names {
+    ghost part = { opt (quoted k.LParen ⊙ listed id ⊙ quoted k.RParen) };
+
+    ghost tree = { λ n. over_names_tree (map name n.0) };
+
+    fn parse(reader: &Units, cursor: &mut Cursor<'_>) -> Result<Names, ParseError> {
+        type Parts = Option<(Word<L_PAREN>, Listed<Name>, Word<R_PAREN>)>;
+        match <Parts as Parse<Units>>::parse(reader, cursor)? {
+            Some((_, names, _)) => Ok(Names(names.0)),
+            None => Ok(Names(Items::new(cursor.alloc()))),
+        }
+    }
 }

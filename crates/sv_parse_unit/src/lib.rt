@@ -2,21 +2,15 @@
 //!
 //! Promises: `parse_unit` answers the tree of all tokens of a text, or the place of the first token with which no text that has a
 //! tree goes on, exactly.
-//! Stands on: `sv_parse_stmt`, `sv_notes`, `sv_parse_expr`, `sv_lex`, `sv_ast`, `sv_grammar`, `sv_text`, `sqlite_items`, `thiserror`.
+//! Stands on: `sv_parse_stmt`, `sv_notes`, `sv_parse_expr`, `sv_read`, `sv_lex`, `sv_ast`, `sv_grammar`, `sv_text`, `sqlite_items`.
 //! Read first: `specs/AnswersUnit.antt`, then the rules of `unit`, `contract` and `part` in `sv_ast`'s `specs/Syntax.antt`.
 #![tactic(auto)]
 
-mod bases;
 mod contract;
 mod declaration;
 mod function;
-mod head;
-mod modifier;
-mod over;
-mod params;
 mod parse;
-mod part;
+mod reader;
 mod unit;
-mod variable;
 
 pub use parse::parse_unit;

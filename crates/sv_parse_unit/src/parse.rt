@@ -1,19 +1,22 @@
 //! The tokens of a text as a tree.
 
-ghost use Rattle.std.specs.Prelude.{◌≡◌, ◌^◌, ◌<◌, ◌≤◌, length, map, IfOk, IfErr};
+ghost use Rattle.std.specs.Prelude.{◌≡◌, ◌^◌, ◌<◌, ◌≤◌, length, IfOk, IfErr};
+ghost use Rattle.sv_grammar.specs.Grammar.{side};
 ghost use Rattle.sv_grammar.specs.Named.{Grows};
+ghost use Rattle.sv_ast.specs.Syntax as g;
+ghost use Rattle.sv_ast.specs.UnitTrees.{unit_tree};
 ghost use Rattle.sv_lex.specs.Limits.{HasNo, IsDeep};
-ghost use Rattle.sv_parse_expr.specs.Answers.{place_of_token};
-ghost use Rattle.sv_parse_expr.specs.Given.{tokens_of};
-ghost use Rattle.sv_parse_expr.specs.Symbols.{token_by, AreNamed};
+ghost use Rattle.sv_read.specs.PartReading.{Reads};
+ghost use Rattle.sv_parse_expr.specs.Answers.{AddsTexts, place_of_token};
 ghost use Rattle.sv_parse_expr.specs.declared.parse_fault.ParseFault.TheVariants.{Syntax};
 ghost use Rattle.sv_parse_unit.specs.AnswersUnit.{AnswersUnit};
 
-use crate::unit::read_unit;
+use crate::reader::Units;
 use std::alloc::Global;
 use sv_ast::Unit;
 use sv_lex::Tokens;
-use sv_parse_expr::{Input, ParseFault, Symbol, answer, symbols_of};
+use sv_parse_expr::{ParseFault, parse_by};
+use sv_read::{Cursor, Parse, ParseError};
 use sv_text::Names;
 
 /// The tree of all tokens. The fault is at the first token such that the tokens up to and including it begin no text that has a
@@ -23,32 +26,26 @@ pub fn parse_unit(alloc: Global, tokens: &Tokens<'_>, names: &mut Names) -> Resu
     requires room { length names.old < 2 ^ 31 }
     ensures answers { AnswersUnit tokens.now names.new result }
     ensures grows { Grows names.old names.new }
+    ensures texts { AddsTexts tokens.now names.old names.new }
 {
-    let symbols = symbols_of(alloc, tokens, names)?;
-    unit_in(alloc, tokens, symbols.as_slice(), names)
-}
-
-fn unit_in(
-    alloc: Global,
-    tokens: &Tokens<'_>,
-    symbols: &[Symbol],
-    names: &Names,
-) -> Result<Unit, ParseFault>
-    requires named { AreNamed names.now symbols.now }
-    requires shown { map (token_by names.now) symbols.now ≡ tokens_of tokens.now }
-    ensures { AnswersUnit tokens.now names.now result }
-{
-    let input = Input::new(alloc, symbols, names);
-    match answer(tokens, read_unit(&input, 0)) {
+    match parse_by(alloc, tokens, 0, names, &read_unit) {
         Ok((unit, to)) => whole(tokens, unit, to),
         Err(fault) => Err(fault),
     }
 }
 
+/// As many contracts and other items as there are.
+fn read_unit(cursor: &mut Cursor<'_>) -> Result<Unit, ParseError>
+    ensures { Reads unit_tree (side g.unit) cursor.old result cursor.new }
+{
+    Parse::parse(&Units, cursor)
+}
+
 /// What was read up to a position, if no token is left there.
 fn whole<X: Drop>(tokens: &Tokens<'_>, read: X, to: usize) -> Result<X, ParseFault>
     ensures ok { IfOk result (λ x. (x ≡ read) × (length tokens.now.list ≤ to)) }
-    ensures err { IfErr result (λ e. (to < length tokens.now.list) × (e ≡ Syntax (place_of_token tokens.now to))) }
+    ensures left { IfErr result (λ _. to < length tokens.now.list) }
+    ensures err { IfErr result (λ e. e ≡ Syntax (place_of_token tokens.now to)) }
 {
     if to < tokens.len() {
         return Err(ParseFault::Syntax(tokens.get(to).place));

@@ -7,7 +7,7 @@ use Rattle.sv_ast.specs.Syntax.{Side}
 use Rattle.sv_ast.specs.Firsts.{nulls}
 use Rattle.sv_read.specs.Here.{Here}
 use Rattle.sv_read.specs.Nesting.{IsBehind, MayRead}
-use Rattle.sv_read.specs.Reading.{Gives}
+use Rattle.sv_read.specs.PartReading.{Gives}
 use Rattle.sv_read.proofs.Moving.{moves}
 
 behind_first : (b d : Bool) (floor at : ℕ) → IsBehind (b || d) floor at → IsBehind b floor at

@@ -1,18 +1,18 @@
 -- How parts that are read make up a part that is read, or fails.
-use Rattle.std.proofs.Common.{Result, Ok, Err, ◌≡◌, ℕ, ◌≤◌, ◌<◌, Bool, true, false, List, [], ◌∷◌, ◌++◌, map, drop, length, refl, sym, ◌∙◌, ap, arith}
-use Rattle.std.proofs.lemmas.List.{append-nil}
+use Rattle.std.proofs.Common.{◌≡◌, ℕ, Bool, true, false, List, [], ◌∷◌, ◌++◌, map, drop, refl, ◌∙◌, ap, arith}
 use Rattle.sv_text.specs.declared.span.Span.{Span}
 use Rattle.sv_text.specs.declared.place.Place.{Place}
-use Rattle.sv_grammar.specs.Grammar.{Part, word, seq, alt, opt, star, side, Tree, unit, pair, left, right, none, some, nil, cons, node, elem, extent_of}
+use Rattle.sv_grammar.specs.Grammar.{Part, seq, alt, opt, star, side, Tree, pair, left, right, none, some, nil, cons, node, elem, extent_of}
 use Rattle.sv_grammar.specs.Named.{none_spells, nil_spells, pair_spells, cons_spells, left_spells, right_spells, some_spells, node_spells}
 use Rattle.sv_grammar.specs.Reach.{between}
-use Rattle.sv_grammar.specs.Reading.{first, read_seq, late_seq, no_seq, read_left, read_right, read_none, read_some, read_nil, read_cons, late_cons, no_cons, read_side, no_side, append_trees, list_tree}
+use Rattle.sv_grammar.specs.Reading.{first, read_seq, late_seq, no_seq, read_left, read_right, read_none, read_some, read_nil, read_cons, late_cons, no_cons, read_side, no_side}
+use Rattle.sv_grammar.specs.ListTrees.{append_trees, list_tree}
 use Rattle.sv_grammar.proofs.Extents.{cut_at}
 use Rattle.sv_ast.specs.Syntax.{Side, rules}
 use Rattle.sv_ast.specs.Firsts.{nulls, firsts}
-use Rattle.sv_ast.specs.Trees.{extent, commas}
+use Rattle.sv_ast.specs.Trees.{extent}
 use Rattle.sv_read.specs.Here.{Here, seen}
-use Rattle.sv_read.specs.Reading.{Gives, Fails, fails_at, no_memory, Repeats}
+use Rattle.sv_read.specs.PartReading.{Gives, Fails, fails_at, no_memory, Repeats}
 use Rattle.sv_read.specs.declared.parse_error.ParseError.{ParseError}
 use Rattle.sv_read.specs.declared.parse_error.ParseError.TheVariants.{NoMemory}
 

@@ -3,7 +3,7 @@ use Rattle.std.specs.Prelude.{ℕ, ◌<◌, ◌≤◌, List, [], map, drop, leng
 use Rattle.sv_grammar.specs.Grammar.{Token}
 use Rattle.sv_grammar.specs.Reading.{next}
 use Rattle.sv_ast.specs.Trees.{extent}
-use Rattle.sv_read.specs.Classes.{code}
+use Rattle.sv_ast.specs.Terminals.{code}
 use Rattle.sv_read.specs.declared.symbol.Symbol.{Symbol}
 use Rattle.sv_read.specs.declared.cursor.Cursor.TheInside.{Inside}
 

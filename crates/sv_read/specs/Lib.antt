@@ -1,7 +1,7 @@
-pub mod Classes
+pub mod TokenClasses
 pub mod Here
-pub mod Reading
+pub mod PartReading
 pub mod Nesting
-pub mod Trees
-pub mod Tables
+pub mod EitherTree
+pub mod FilledParts
 pub mod Choosing

@@ -6,7 +6,7 @@ use Rattle.sv_grammar.specs.Reading.{nullable}
 use Rattle.sv_ast.specs.Syntax.{Side}
 use Rattle.sv_ast.specs.Firsts.{nulls}
 use Rattle.sv_read.specs.Here.{Here}
-use Rattle.sv_read.specs.Reading.{Reads}
+use Rattle.sv_read.specs.PartReading.{Reads}
 use Rattle.sv_read.specs.declared.parse_error.ParseError.{ParseError}
 
 -- the part may come to one of these sides before it has read a token

@@ -1,19 +1,19 @@
 //! What the readers read: the tokens of a text with the names of their texts, from a position on.
 
 ghost use Rattle.std.specs.Prelude.{◌≡◌, ◌≤◌, ◌+◌, ◌∷◌, [], length, map};
-ghost use Rattle.sv_grammar.specs.Grammar.{elem, extent_of, name, text};
+ghost use Rattle.sv_grammar.specs.Grammar.{elem, extent_of, name, text, word};
 ghost use Rattle.sv_grammar.specs.Reach.{between};
 ghost use Rattle.sv_ast.specs.Trees.{extent};
-ghost use Rattle.sv_ast.specs.Syntax.{quoted, kept, id, ids};
-ghost use Rattle.sv_read.specs.Classes.{code};
+ghost use Rattle.sv_ast.specs.Syntax.{quoted, id, ids};
+ghost use Rattle.sv_ast.specs.Terminals.{code};
 ghost use Rattle.sv_read.specs.Here.{seen, given_by, AreNamed};
-ghost use Rattle.sv_read.specs.Reading.{Reads, no_tree};
+ghost use Rattle.sv_read.specs.PartReading.{Reads, no_tree};
 
-use crate::class::Class;
 use crate::parse_error::ParseError;
 use crate::symbol::Symbol;
 use std::alloc::Global;
 use std::marker::Model;
+use sv_ast::Class;
 use sv_text::{Name, Names, Place, Span};
 
 /// A position in the tokens of a text. A contract sees the tokens as the grammar does, with the names of their texts, and the position.
@@ -119,7 +119,7 @@ impl<'a> Cursor<'a> {
 
     /// Takes a token of this class.
     pub fn expect(&mut self, class: Class) -> Result<(), ParseError>
-        ensures { Reads no_tree (quoted (code class)) self.old result self.new }
+        ensures { Reads no_tree (quoted class) self.old result self.new }
     {
         if !self.sees(class) {
             return Err(ParseError::Syntax(self.at));
@@ -130,7 +130,7 @@ impl<'a> Cursor<'a> {
 
     /// Takes a token of the class with this number, from 0 on.
     pub fn word(&mut self, class: u8) -> Result<(), ParseError>
-        ensures { Reads no_tree (quoted (class + 1)) self.old result self.new }
+        ensures { Reads no_tree (word ((class + 1) ∷ [])) self.old result self.new }
     {
         if !self.sees_word(class) {
             return Err(ParseError::Syntax(self.at));
@@ -141,7 +141,7 @@ impl<'a> Cursor<'a> {
 
     /// Takes a token of the class with this number, from 0 on: the name of its text.
     pub fn kept(&mut self, class: u8) -> Result<Name, ParseError>
-        ensures { Reads name (kept (class + 1)) self.old result self.new }
+        ensures { Reads name (text ((class + 1) ∷ [])) self.old result self.new }
     {
         if !self.sees_word(class) {
             return Err(ParseError::Syntax(self.at));

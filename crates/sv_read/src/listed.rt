@@ -1,10 +1,10 @@
 //! Lists with commas, and parts that follow a word each.
 
-use crate::class::Class;
 use crate::cursor::Cursor;
 use crate::parse::{Begins, Nested, Parse};
 use crate::parse_error::ParseError;
 use sqlite_items::Items;
+use sv_ast::Class;
 
 /// One or more, with commas between.
 #[derive(Drop)]
@@ -33,15 +33,15 @@ impl<R: Nested, A: Parse<R>> Parse<R> for Listed<A> {
 
 impl<R: Nested, A: Begins<R>> Begins<R> for Listed<A> {
     ghost use Rattle.sv_grammar.specs.Grammar.{seq, star};
-    ghost use Rattle.sv_ast.specs.Terminals as k;
+    ghost use Rattle.sv_ast.specs.declared.class.Class.TheVariants as k;
     ghost use Rattle.sv_ast.specs.Syntax.{quoted};
-    ghost use Rattle.sv_read.specs.Tables.{first_filled};
+    ghost use Rattle.sv_read.specs.FilledParts.{first_filled};
 
     fn begins(cursor: &Cursor<'_>) -> bool {
         A::begins(cursor)
     }
 
-    ghost filled = { first_filled A.part (star (seq (quoted k.comma) A.part)) A.filled };
+    ghost filled = { first_filled A.part (star (seq (quoted k.Comma) A.part)) A.filled };
 }
 
 /// Any number, with commas between.
@@ -71,12 +71,11 @@ impl<R: Nested, A: Begins<R>> Parse<R> for Commas<A> {
 pub struct Led<const CLASS: u8, A>(pub Items<A>);
 
 impl<R: Nested, const CLASS: u8, A: Parse<R>> Parse<R> for Led<CLASS, A> {
-    ghost use Rattle.std.specs.Prelude.{◌+◌, map};
-    ghost use Rattle.sv_grammar.specs.Grammar.{pair, seq, star, unit};
-    ghost use Rattle.sv_grammar.specs.Reading.{list_tree};
-    ghost use Rattle.sv_ast.specs.Syntax.{quoted};
+    ghost use Rattle.std.specs.Prelude.{◌+◌, ◌∷◌, [], map};
+    ghost use Rattle.sv_grammar.specs.Grammar.{pair, seq, star, unit, word};
+    ghost use Rattle.sv_grammar.specs.ListTrees.{list_tree};
 
-    ghost part = { star (seq (quoted (CLASS + 1)) A.part) };
+    ghost part = { star (seq (word ((CLASS + 1) ∷ [])) A.part) };
 
     ghost tree = { λ l. list_tree (map (pair unit) (map A.tree l.0)) };
 

@@ -7,7 +7,7 @@ ghost use Rattle.sv_ast.specs.Syntax.{Side};
 ghost use Rattle.sv_ast.specs.Firsts.{nulls, firsts};
 ghost use Rattle.sv_read.specs.Here.{seen};
 ghost use Rattle.sv_read.specs.Nesting.{MayRead, leads};
-ghost use Rattle.sv_read.specs.Reading.{Reads};
+ghost use Rattle.sv_read.specs.PartReading.{Reads};
 
 use crate::cursor::Cursor;
 use crate::parse_error::ParseError;

@@ -4,7 +4,7 @@ ghost use Rattle.std.specs.Prelude.{◌≡◌, IfOk};
 ghost use Rattle.sv_grammar.specs.Grammar.{Part, Tree};
 ghost use Rattle.sv_ast.specs.Syntax.{Side};
 ghost use Rattle.sv_read.specs.Here.{Here};
-ghost use Rattle.sv_read.specs.Reading.{Reads};
+ghost use Rattle.sv_read.specs.PartReading.{Reads};
 
 use crate::cursor::Cursor;
 use crate::parse::{Begins, Nested, Parse};
@@ -14,7 +14,7 @@ use sqlite_items::{Boxed, Items};
 /// The one and then the other.
 impl<R: Nested, A: Parse<R>, B: Parse<R>> Parse<R> for (A, B) {
     ghost use Rattle.sv_grammar.specs.Grammar.{seq};
-    ghost use Rattle.sv_read.specs.Reading.{pair_tree};
+    ghost use Rattle.sv_read.specs.PartReading.{pair_tree};
 
     ghost part = { seq A.part B.part };
 
@@ -31,7 +31,7 @@ impl<R: Nested, A: Parse<R>, B: Parse<R>> Parse<R> for (A, B) {
 impl<R: Nested, A: Begins<R>> Parse<R> for Items<A> {
     ghost use Rattle.std.specs.Prelude.{map};
     ghost use Rattle.sv_grammar.specs.Grammar.{star};
-    ghost use Rattle.sv_grammar.specs.Reading.{list_tree};
+    ghost use Rattle.sv_grammar.specs.ListTrees.{list_tree};
 
     ghost part = { star A.part };
 
@@ -160,7 +160,7 @@ impl<
 
 /// Told by the one, where that has a token.
 impl<R: Nested, A: Begins<R>, B: Parse<R>> Begins<R> for (A, B) {
-    ghost use Rattle.sv_read.specs.Tables.{first_filled};
+    ghost use Rattle.sv_read.specs.FilledParts.{first_filled};
 
     fn begins(cursor: &Cursor<'_>) -> bool {
         A::begins(cursor)
@@ -224,7 +224,7 @@ impl<
 
 impl<R: Nested, A: Begins<R>, B: Parse<R>, C: Parse<R>> Begins<R> for (A, B, C) {
     ghost use Rattle.sv_grammar.specs.Grammar.{seq};
-    ghost use Rattle.sv_read.specs.Tables.{first_filled};
+    ghost use Rattle.sv_read.specs.FilledParts.{first_filled};
 
     fn begins(cursor: &Cursor<'_>) -> bool {
         A::begins(cursor)
@@ -235,7 +235,7 @@ impl<R: Nested, A: Begins<R>, B: Parse<R>, C: Parse<R>> Begins<R> for (A, B, C) 
 
 impl<R: Nested, A: Begins<R>, B: Parse<R>, C: Parse<R>, D: Parse<R>> Begins<R> for (A, B, C, D) {
     ghost use Rattle.sv_grammar.specs.Grammar.{seq};
-    ghost use Rattle.sv_read.specs.Tables.{first_filled};
+    ghost use Rattle.sv_read.specs.FilledParts.{first_filled};
 
     fn begins(cursor: &Cursor<'_>) -> bool {
         A::begins(cursor)
@@ -247,7 +247,7 @@ impl<R: Nested, A: Begins<R>, B: Parse<R>, C: Parse<R>, D: Parse<R>> Begins<R> f
 impl<R: Nested, A: Begins<R>, B: Parse<R>, C: Parse<R>, D: Parse<R>, E: Parse<R>> Begins<R>
     for (A, B, C, D, E) {
     ghost use Rattle.sv_grammar.specs.Grammar.{seq};
-    ghost use Rattle.sv_read.specs.Tables.{first_filled};
+    ghost use Rattle.sv_read.specs.FilledParts.{first_filled};
 
     fn begins(cursor: &Cursor<'_>) -> bool {
         A::begins(cursor)

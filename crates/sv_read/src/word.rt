@@ -14,11 +14,10 @@ use sv_text::Name;
 pub struct Word<const CLASS: u8>;
 
 impl<R: Nested, const CLASS: u8> Parse<R> for Word<CLASS> {
-    ghost use Rattle.std.specs.Prelude.{◌+◌};
-    ghost use Rattle.sv_grammar.specs.Grammar.{unit};
-    ghost use Rattle.sv_ast.specs.Syntax.{quoted};
+    ghost use Rattle.std.specs.Prelude.{◌+◌, ◌∷◌, []};
+    ghost use Rattle.sv_grammar.specs.Grammar.{unit, word};
 
-    ghost part = { quoted (CLASS + 1) };
+    ghost part = { word ((CLASS + 1) ∷ []) };
 
     ghost tree = { λ _. unit };
 
@@ -43,11 +42,10 @@ pub fn behind<const CLASS: u8, X>(read: Option<(Word<CLASS>, X)>) -> Option<X>
 pub struct Kept<const CLASS: u8>(pub Name);
 
 impl<R: Nested, const CLASS: u8> Parse<R> for Kept<CLASS> {
-    ghost use Rattle.std.specs.Prelude.{◌+◌};
-    ghost use Rattle.sv_grammar.specs.Grammar.{name};
-    ghost use Rattle.sv_ast.specs.Syntax.{kept};
+    ghost use Rattle.std.specs.Prelude.{◌+◌, ◌∷◌, []};
+    ghost use Rattle.sv_grammar.specs.Grammar.{name, text};
 
-    ghost part = { kept (CLASS + 1) };
+    ghost part = { text ((CLASS + 1) ∷ []) };
 
     ghost tree = { λ k. name k.0 };
 

@@ -1,9 +1,8 @@
-use Rattle.std.proofs.Common.{arith}
-use Rattle.sv_parse_expr.proofs.Reading.{reading}
+use Rattle.std.proofs.Common.{refl}
 use Rattle.sv_parse_unit.proofs.unit.item_of.Goals as goal
 
 pub returns-in-First : goal.returns-in-First
-returns-in-First c = grind (arith, reading)
+returns-in-First c = rw c.in-First.is refl
 
 pub returns-in-Second : goal.returns-in-Second
-returns-in-Second c = grind (arith, reading)
+returns-in-Second c = rw c.in-Second.is refl

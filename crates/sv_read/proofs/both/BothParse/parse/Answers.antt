@@ -1,6 +1,4 @@
-use Rattle.std.proofs.Common.{sym, ◌∙◌}
 use Rattle.sv_read.proofs.Exits.{left_by}
-use Rattle.sv_read.proofs.Nesting.{may_first, may_other}
 use Rattle.sv_read.proofs.both.BothParse.parse.Goals as goal
 
 pub returns-in_err-way : goal.returns-in_err-way

@@ -1,7 +1,7 @@
 use Rattle.std.proofs.Common.{sym, ◌∙◌}
 use Rattle.sv_read.proofs.Exits.{left_by}
 use Rattle.sv_read.proofs.Reading.{gives_left, gives_right, fails_left, fails_right}
-use Rattle.sv_read.proofs.Nesting.{may_first, may_other}
+use Rattle.sv_read.proofs.Nesting.{may_first}
 use Rattle.sv_read.proofs.either.EitherParse.parse.Goals as goal
 
 pub returns-in_err-parse : goal.returns-in_err-parse

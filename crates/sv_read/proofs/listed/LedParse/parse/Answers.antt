@@ -1,10 +1,10 @@
 use Rattle.std.proofs.Common.{sym, ◌∙◌, ap, map, length, arith, refl}
 use Rattle.sv_grammar.specs.Grammar.{pair, unit}
-use Rattle.sv_read.specs.Reading.{no_memory}
+use Rattle.sv_read.specs.PartReading.{no_memory}
 use Rattle.sv_read.proofs.Exits.{left_by}
 use Rattle.sv_read.proofs.Moving.{moves}
 use Rattle.sv_read.proofs.Nesting.{may_behind}
-use Rattle.sv_read.proofs.Reading.{map_push, gives_seq, fails_seq, fails_late, repeats_begin, repeats_push, repeats_end, fails_repeats}
+use Rattle.sv_read.proofs.Reading.{map_push, gives_seq, fails_seq, fails_late, repeats_push, repeats_end, fails_repeats}
 use Rattle.sv_read.proofs.listed.LedParse.parse.Goals as goal
 
 pub parse-requires : goal.parse-requires

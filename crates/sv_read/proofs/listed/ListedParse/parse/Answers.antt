@@ -1,10 +1,10 @@
 use Rattle.std.proofs.Common.{sym, ◌∙◌, ap, length, arith, refl}
-use Rattle.sv_read.specs.Reading.{no_memory}
+use Rattle.sv_read.specs.PartReading.{no_memory}
 use Rattle.sv_read.proofs.Exits.{left_by}
 use Rattle.sv_read.proofs.Moving.{moves}
 use Rattle.sv_read.proofs.Reading.{fails_seq}
 use Rattle.sv_read.proofs.Lists.{lists_begin, lists_push, lists_end, fails_lists_word, fails_lists}
-use Rattle.sv_read.proofs.Nesting.{may_first, may_behind}
+use Rattle.sv_read.proofs.Nesting.{may_first}
 use Rattle.sv_read.proofs.listed.ListedParse.parse.Goals as goal
 
 pub returns-in_err-first : goal.returns-in_err-first

@@ -1,4 +1,4 @@
-use Rattle.sv_read.specs.Reading.{no_memory}
+use Rattle.sv_read.specs.PartReading.{no_memory}
 use Rattle.sv_read.proofs.Exits.{left_by}
 use Rattle.sv_read.proofs.parts.BoxedParse.parse.Goals as goal
 

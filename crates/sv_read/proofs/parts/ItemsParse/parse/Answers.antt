@@ -1,5 +1,5 @@
 use Rattle.std.proofs.Common.{sym, ◌∙◌, ap, length, arith}
-use Rattle.sv_read.specs.Reading.{no_memory}
+use Rattle.sv_read.specs.PartReading.{no_memory}
 use Rattle.sv_read.proofs.Exits.{left_by}
 use Rattle.sv_read.proofs.Moving.{moves}
 use Rattle.sv_read.proofs.Reading.{repeats_push, repeats_end, fails_repeats}

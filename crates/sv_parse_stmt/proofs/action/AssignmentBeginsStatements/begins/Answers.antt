@@ -1,0 +1,4 @@
+use Rattle.sv_parse_stmt.proofs.action.AssignmentBeginsStatements.begins.Goals as goal
+
+pub returns : goal.returns
+returns γ c = c.sees_any.ensures

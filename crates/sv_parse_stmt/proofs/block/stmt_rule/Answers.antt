@@ -1,0 +1,13 @@
+use Rattle.sv_ast.proofs.StmtLaws.{stmt_is}
+use Rattle.sv_read.proofs.Exits.{left_by}
+use Rattle.sv_read.proofs.Reading.{gives_side, fails_side}
+use Rattle.sv_parse_stmt.proofs.block.stmt_rule.Goals as goal
+
+pub parse-requires : goal.parse-requires
+parse-requires g c = c.requires
+
+pub returns-in_err-kind : goal.returns-in_err-kind
+returns-in_err-kind g c = left_by _ _ _ _ _ _ c.from_residual.ensures (fails_side c.in_err-kind.ensures)
+
+pub returns : goal.returns
+returns g c = gives_side (stmt_is _ _ _) c.at-from.ensures.is c.extent.ensures c.in_ok-kind.ensures

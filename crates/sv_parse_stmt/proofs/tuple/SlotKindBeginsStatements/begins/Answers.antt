@@ -1,0 +1,10 @@
+use Rattle.std.proofs.Common.{◌++◌, refl}
+use Rattle.sv_ast.specs.Syntax as g
+use Rattle.sv_ast.specs.Syntax.{ids}
+use Rattle.sv_ast.specs.Firsts.{firsts}
+use Rattle.sv_read.specs.Here.{seen}
+use Rattle.sv_parse_stmt.proofs.FirstSets.{begins_same}
+use Rattle.sv_parse_stmt.proofs.tuple.SlotKindBeginsStatements.begins.Goals as goal
+
+pub returns : goal.returns
+returns γ c = begins_same (seen c.args.cursor.now) (firsts g.type) (firsts g.type ++ ids) refl refl c.sees_type.ensures

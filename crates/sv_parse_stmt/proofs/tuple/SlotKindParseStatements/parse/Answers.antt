@@ -1,0 +1,8 @@
+use Rattle.sv_read.proofs.Exits.{left_by}
+use Rattle.sv_parse_stmt.proofs.tuple.SlotKindParseStatements.parse.Goals as goal
+
+pub parse-requires : goal.parse-requires
+parse-requires g c = c.requires
+
+pub returns-in_err-of_type : goal.returns-in_err-of_type
+returns-in_err-of_type g c = left_by _ _ _ _ _ _ c.from_residual.ensures c.in_err-of_type.ensures

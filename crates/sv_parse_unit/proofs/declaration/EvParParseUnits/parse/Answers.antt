@@ -1,0 +1,14 @@
+use Rattle.std.proofs.Common.{refl}
+use Rattle.sv_ast.specs.Syntax as g
+use Rattle.sv_read.proofs.Exits.{left_by}
+use Rattle.sv_read.proofs.Tables.{word_if}
+use Rattle.sv_parse_unit.proofs.declaration.EvParParseUnits.parse.Goals as goal
+
+pub placed-requires : goal.placed-requires
+placed-requires c = c.requires
+
+pub returns-in_err-of_type : goal.returns-in_err-of_type
+returns-in_err-of_type c = left_by _ _ _ _ _ _ c.from_residual.ensures (c.in_err-of_type.ensures g.ev_par refl)
+
+pub returns : goal.returns
+returns c = rw (c.is_some.ensures, word_if c.in_ok-of_type.indexed) (c.in_ok-of_type.ensures g.ev_par refl)

@@ -1,0 +1,4 @@
+use Rattle.sv_parse_unit.proofs.function.OverBeginsUnits.begins.Goals as goal
+
+pub returns : goal.returns
+returns c = c.sees.ensures
