@@ -13,7 +13,7 @@ use sqlite_items::Items;
 use sv_ast::{Expr, Note};
 use sv_parse_expr::read_expr;
 use sv_read::words::{NOTE, NOTE_END};
-use sv_read::{Begins, Class, Cursor, Extent, Kept, Nested, Parse, ParseError, Word};
+use sv_read::{Begins, Class, Cursor, Kept, Nested, Parse, ParseError, Word, placed};
 
 /// The reader of annotation lines, in which none nests.
 struct Lines;
@@ -43,10 +43,8 @@ impl Parse<Lines> for Note {
     ghost tree = { note_tree };
 
     fn parse(reader: &Lines, cursor: &mut Cursor<'_>) -> Result<Note, ParseError> {
-        let from = cursor.at();
         type Parts = (Kept<NOTE>, Expr, Word<NOTE_END>);
-        let (word, expr, _) = <Parts as Parse<Lines>>::parse(reader, cursor)?;
-        let Extent { span, place } = cursor.extent(from);
+        let ((word, expr, _), span, place) = placed::<_, Parts>(reader, cursor)?;
         Ok(Note {
             word: word.0,
             expr,

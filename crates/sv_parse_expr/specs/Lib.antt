@@ -3,3 +3,4 @@ pub mod Answers
 pub mod Inner
 pub mod Exact
 pub mod PostParts
+pub mod ExprWords

@@ -1,16 +1,9 @@
 //! Operators and their operands.
 #![tactic(auto, using(sv_read::proofs::Reading::fails_memory))]
 
-ghost use Rattle.std.specs.Prelude.{◌≡◌, refl};
-ghost use Rattle.sv_grammar.specs.Grammar.{elem, side};
+ghost use Rattle.sv_parse_expr.specs.ExprWords.{◌≡◌, refl, elem, side, quoted, ◌∣◌, ◌⊙◌, and_tree, arms_tree, expr_tree, less_op_tree, less_rest_tree, less_tree, or_tree, power_tree, prod_op_tree, prod_rest_tree, prod_tree, same_op_tree, same_rest_tree, same_tree, sum_op_tree, sum_rest_tree, sum_tree, term_kind_tree, term_tree, unary_op_tree, unary_operand_tree, unary_tree, firsts, seen, Reads, May};
 ghost use Rattle.sv_ast.specs.declared.class.Class.TheVariants as k;
 ghost use Rattle.sv_ast.specs.Syntax as g;
-ghost use Rattle.sv_ast.specs.Syntax.{quoted, ◌∣◌, ◌⊙◌};
-ghost use Rattle.sv_ast.specs.ExprTrees.{and_tree, arms_tree, expr_tree, less_op_tree, less_rest_tree, less_tree, or_tree, power_tree, prod_op_tree, prod_rest_tree, prod_tree, same_op_tree, same_rest_tree, same_tree, sum_op_tree, sum_rest_tree, sum_tree, term_kind_tree, term_tree, unary_op_tree, unary_operand_tree, unary_tree};
-ghost use Rattle.sv_ast.specs.Firsts.{firsts};
-ghost use Rattle.sv_read.specs.Here.{seen};
-ghost use Rattle.sv_read.specs.PartReading.{Reads};
-ghost use Rattle.sv_parse_expr.specs.Inner.{May};
 
 use crate::reader::{Exprs, NestedExprs};
 use sqlite_items::{Boxed, Items};
@@ -23,7 +16,7 @@ use sv_read::words::{
     AND_AND, AT_LEAST, AT_MOST, BANG, COLON, DECREMENT, DIVIDE, GREATER, INCREMENT, LESS, MINUS,
     OR_OR, PLUS, POWER, QUESTION, REMAINDER, SAME, TIMES, UNEQUAL,
 };
-use sv_read::{Begins, Class, Cursor, Extent, Led, Parse, ParseError, Word, behind};
+use sv_read::{Begins, Class, Cursor, Extent, Led, Parse, ParseError, Word, behind, placed};
 
 /// An expression, as `a` or `a ? b : c`.
 pub fn expr_rule<N: NestedExprs>(
@@ -33,9 +26,7 @@ pub fn expr_rule<N: NestedExprs>(
     requires { May N.nests N.floor reader.now.nested (g.rules g.expr) cursor.old.at }
     ensures { Reads expr_tree (side g.expr) cursor.old result cursor.new }
 {
-    let from = cursor.at();
-    let (first, arms) = Parse::parse(reader, cursor)?;
-    let Extent { span, place } = cursor.extent(from);
+    let ((first, arms), span, place) = placed(reader, cursor)?;
     Ok(Expr {
         first,
         arms,
@@ -107,10 +98,8 @@ impl<N: NestedExprs> Parse<Exprs<N>> for Or {
     ghost tree = { or_tree };
 
     fn parse(reader: &Exprs<N>, cursor: &mut Cursor<'_>) -> Result<Or, ParseError> {
-        let from = cursor.at();
         type Parts = (And, Led<OR_OR, And>);
-        let (first, rest) = <Parts as Parse<Exprs<N>>>::parse(reader, cursor)?;
-        let Extent { span, place } = cursor.extent(from);
+        let ((first, rest), span, place) = placed::<_, Parts>(reader, cursor)?;
         Ok(Or {
             first,
             rest: rest.0,
@@ -127,10 +116,8 @@ impl<N: NestedExprs> Parse<Exprs<N>> for And {
     ghost tree = { and_tree };
 
     fn parse(reader: &Exprs<N>, cursor: &mut Cursor<'_>) -> Result<And, ParseError> {
-        let from = cursor.at();
         type Parts = (Same, Led<AND_AND, Same>);
-        let (first, rest) = <Parts as Parse<Exprs<N>>>::parse(reader, cursor)?;
-        let Extent { span, place } = cursor.extent(from);
+        let ((first, rest), span, place) = placed::<_, Parts>(reader, cursor)?;
         Ok(And {
             first,
             rest: rest.0,
@@ -147,9 +134,7 @@ impl<N: NestedExprs> Parse<Exprs<N>> for Same {
     ghost tree = { same_tree };
 
     fn parse(reader: &Exprs<N>, cursor: &mut Cursor<'_>) -> Result<Same, ParseError> {
-        let from = cursor.at();
-        let (first, rest) = Parse::parse(reader, cursor)?;
-        let Extent { span, place } = cursor.extent(from);
+        let ((first, rest), span, place) = placed(reader, cursor)?;
         Ok(Same {
             first,
             rest,
@@ -200,9 +185,7 @@ impl<N: NestedExprs> Parse<Exprs<N>> for Less {
     ghost tree = { less_tree };
 
     fn parse(reader: &Exprs<N>, cursor: &mut Cursor<'_>) -> Result<Less, ParseError> {
-        let from = cursor.at();
-        let (first, rest) = Parse::parse(reader, cursor)?;
-        let Extent { span, place } = cursor.extent(from);
+        let ((first, rest), span, place) = placed(reader, cursor)?;
         Ok(Less {
             first,
             rest,
@@ -258,9 +241,7 @@ impl<N: NestedExprs> Parse<Exprs<N>> for Sum {
     ghost tree = { sum_tree };
 
     fn parse(reader: &Exprs<N>, cursor: &mut Cursor<'_>) -> Result<Sum, ParseError> {
-        let from = cursor.at();
-        let (first, rest) = Parse::parse(reader, cursor)?;
-        let Extent { span, place } = cursor.extent(from);
+        let ((first, rest), span, place) = placed(reader, cursor)?;
         Ok(Sum {
             first,
             rest,
@@ -311,9 +292,7 @@ impl<N: NestedExprs> Parse<Exprs<N>> for Prod {
     ghost tree = { prod_tree };
 
     fn parse(reader: &Exprs<N>, cursor: &mut Cursor<'_>) -> Result<Prod, ParseError> {
-        let from = cursor.at();
-        let (first, rest) = Parse::parse(reader, cursor)?;
-        let Extent { span, place } = cursor.extent(from);
+        let ((first, rest), span, place) = placed(reader, cursor)?;
         Ok(Prod {
             first,
             rest,
@@ -395,9 +374,7 @@ pub fn unary_rule<N: NestedExprs>(
     requires { May N.nests N.floor reader.now.nested (g.rules g.unary) cursor.old.at }
     ensures { Reads unary_tree (side g.unary) cursor.old result cursor.new }
 {
-    let from = cursor.at();
-    let (op, operand) = Parse::parse(reader, cursor)?;
-    let Extent { span, place } = cursor.extent(from);
+    let ((op, operand), span, place) = placed(reader, cursor)?;
     Ok(Unary {
         op,
         operand,
@@ -469,14 +446,11 @@ pub fn power_rule<N: NestedExprs>(
     requires { May N.nests N.floor reader.now.nested (g.rules g.power) cursor.old.at }
     ensures { Reads power_tree (side g.power) cursor.old result cursor.new }
 {
-    let from = cursor.at();
     type Parts = (Post, Option<(Word<POWER>, Boxed<Power>)>);
-    let (base, exponent) = <Parts as Parse<Exprs<N>>>::parse(reader, cursor)?;
-    let exponent = behind(exponent);
-    let Extent { span, place } = cursor.extent(from);
+    let ((base, exponent), span, place) = placed::<_, Parts>(reader, cursor)?;
     Ok(Power {
         base,
-        exponent,
+        exponent: behind(exponent),
         span,
         place,
     })

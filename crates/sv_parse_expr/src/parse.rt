@@ -1,15 +1,8 @@
 //! The parts of a text's tokens as trees.
 
-ghost use Rattle.std.specs.Prelude.{◌≡◌, ◌^◌, ◌<◌, ◌≤◌, length};
+ghost use Rattle.sv_parse_expr.specs.ExprWords.{◌≡◌, ◌^◌, ◌<◌, ◌≤◌, length, side, Grows, args_tree, expr_tree, type_tree, HasNo, IsDeep, Here, AddsTexts, Answers, place_of_token, AnswersBy, Show, fault_of};
 ghost use denote.Ref.{MutBor};
-ghost use Rattle.sv_grammar.specs.Grammar.{side};
-ghost use Rattle.sv_grammar.specs.Named.{Grows};
 ghost use Rattle.sv_ast.specs.Syntax as g;
-ghost use Rattle.sv_ast.specs.ExprTrees.{args_tree, expr_tree, type_tree};
-ghost use Rattle.sv_lex.specs.Limits.{HasNo, IsDeep};
-ghost use Rattle.sv_read.specs.Here.{Here};
-ghost use Rattle.sv_parse_expr.specs.Answers.{AddsTexts, Answers, place_of_token};
-ghost use Rattle.sv_parse_expr.specs.Exact.{AnswersBy, Show, fault_of};
 
 use crate::parse_fault::ParseFault;
 use crate::reader::{read_args, read_expr, read_type};

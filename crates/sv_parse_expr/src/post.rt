@@ -1,19 +1,9 @@
 //! Atoms and what is applied to them.
 #![tactic(auto, using(sv_read::proofs::Reading::fails_memory))]
 
-ghost use Rattle.std.specs.Prelude.{◌≡◌, [], ◌∷◌, true, refl, map};
-ghost use Rattle.sv_grammar.specs.Grammar.{elem, opt, side, unit};
-ghost use Rattle.sv_ast.specs.Terminals.{code};
+ghost use Rattle.sv_parse_expr.specs.ExprWords.{◌≡◌, [], ◌∷◌, true, refl, map, elem, opt, side, unit, code, ◌⊗◌, last, optional_commas, listed, quoted, ◌⊙◌, args_kind_tree, args_tree, atom_kind_tree, atom_tree, expr_tree, named_arg_tree, post_tree, suffix_kind_tree, suffix_tree, type_tree, unit10_kind_tree, unit10_tree, seen, Reads, either_tree, May, args_part, named};
 ghost use Rattle.sv_ast.specs.declared.class.Class.TheVariants as k;
-ghost use Rattle.sv_ast.specs.Trees.{◌⊗◌, last, optional_commas};
 ghost use Rattle.sv_ast.specs.Syntax as g;
-ghost use Rattle.sv_ast.specs.Syntax.{listed, quoted, ◌⊙◌};
-ghost use Rattle.sv_ast.specs.ExprTrees.{args_kind_tree, args_tree, atom_kind_tree, atom_tree, expr_tree, named_arg_tree, post_tree, suffix_kind_tree, suffix_tree, type_tree, unit10_kind_tree, unit10_tree};
-ghost use Rattle.sv_read.specs.Here.{seen};
-ghost use Rattle.sv_read.specs.PartReading.{Reads};
-ghost use Rattle.sv_read.specs.EitherTree.{either_tree};
-ghost use Rattle.sv_parse_expr.specs.Inner.{May};
-ghost use Rattle.sv_parse_expr.specs.PostParts.{args_part, named};
 
 use crate::operators::sees_expr;
 use crate::reader::{Exprs, NestedExprs};
@@ -28,7 +18,7 @@ use sv_read::words::{
     INCREMENT, L_BRACE, L_BRACKET, L_PAREN, MINUTES, NEW, NUMBER, PAYABLE, R_BRACE, R_BRACKET,
     R_PAREN, SECONDS, STRING_LITERAL, SUPER, THIS, TRUE, TYPE, VALUE, WEEKS, WEI,
 };
-use sv_read::{Begins, Class, Commas, Cursor, Extent, Kept, Parse, ParseError, Word, with};
+use sv_read::{Begins, Class, Commas, Cursor, Extent, Kept, Parse, ParseError, Word, placed, with};
 use sv_text::Name;
 
 /// An atom with what is applied to it, as `a.b[i](x)`.
@@ -84,9 +74,7 @@ impl<N: NestedExprs> Parse<Exprs<N>> for Suffix {
     ghost tree = { suffix_tree };
 
     fn parse(reader: &Exprs<N>, cursor: &mut Cursor<'_>) -> Result<Suffix, ParseError> {
-        let from = cursor.at();
-        let kind = Parse::parse(reader, cursor)?;
-        let Extent { span, place } = cursor.extent(from);
+        let (kind, span, place) = placed(reader, cursor)?;
         Ok(Suffix { kind, span, place })
     }
 }
@@ -114,20 +102,15 @@ impl<N: NestedExprs> Parse<Exprs<N>> for SuffixKind {
     fn parse(reader: &Exprs<N>, cursor: &mut Cursor<'_>) -> Result<SuffixKind, ParseError> {
         type Index = (Word<L_BRACKET>, Boxed<Expr>, Word<R_BRACKET>);
         type Member = (Word<DOT>, Name);
-        type Value = (
-            Word<L_BRACE>,
-            Word<VALUE>,
-            Word<COLON>,
-            Boxed<Expr>,
-            Word<R_BRACE>,
-        );
+        type Given = (Word<COLON>, Boxed<Expr>, Word<R_BRACE>);
+        type Value = (Word<L_BRACE>, Word<VALUE>, Given);
         type Step = Either<Word<INCREMENT>, Word<DECREMENT>>;
         type Forms = Either<Index, Either<Member, Either<Args, Either<Value, Step>>>>;
         match <Forms as Parse<Exprs<N>>>::parse(reader, cursor)? {
             First((_, index, _)) => Ok(SuffixKind::Index(index)),
             Second(First((_, member))) => Ok(SuffixKind::Member(member)),
             Second(Second(First(args))) => Ok(SuffixKind::Call(args)),
-            Second(Second(Second(First((_, _, _, value, _))))) => Ok(SuffixKind::Value(value)),
+            Second(Second(Second(First((_, _, given))))) => Ok(SuffixKind::Value(given.1)),
             Second(Second(Second(Second(First(_))))) => Ok(SuffixKind::Increment),
             Second(Second(Second(Second(Second(_))))) => Ok(SuffixKind::Decrement),
         }
@@ -141,9 +124,7 @@ impl<N: NestedExprs> Parse<Exprs<N>> for Atom {
     ghost tree = { atom_tree };
 
     fn parse(reader: &Exprs<N>, cursor: &mut Cursor<'_>) -> Result<Atom, ParseError> {
-        let from = cursor.at();
-        let kind = Parse::parse(reader, cursor)?;
-        let Extent { span, place } = cursor.extent(from);
+        let (kind, span, place) = placed(reader, cursor)?;
         Ok(Atom { kind, span, place })
     }
 }
@@ -214,9 +195,7 @@ impl<N: NestedExprs> Parse<Exprs<N>> for Unit10 {
     ghost tree = { unit10_tree };
 
     fn parse(reader: &Exprs<N>, cursor: &mut Cursor<'_>) -> Result<Unit10, ParseError> {
-        let from = cursor.at();
-        let kind = Parse::parse(reader, cursor)?;
-        let Extent { span, place } = cursor.extent(from);
+        let (kind, span, place) = placed(reader, cursor)?;
         Ok(Unit10 { kind, span, place })
     }
 }
@@ -267,9 +246,8 @@ impl<N: NestedExprs> Parse<Exprs<N>> for Args {
     ghost tree = { args_tree };
 
     fn parse(reader: &Exprs<N>, cursor: &mut Cursor<'_>) -> Result<Args, ParseError> {
-        let from = cursor.at();
-        let (_, kind) = <(Word<L_PAREN>, ArgsKind) as Parse<Exprs<N>>>::parse(reader, cursor)?;
-        let Extent { span, place } = cursor.extent(from);
+        type Parts = (Word<L_PAREN>, ArgsKind);
+        let ((_, kind), span, place) = placed::<_, Parts>(reader, cursor)?;
         Ok(Args { kind, span, place })
     }
 }
@@ -312,15 +290,11 @@ impl<N: NestedExprs> Parse<Exprs<N>> for ArgsKind {
     ghost tree = { args_kind_tree };
 
     fn parse(reader: &Exprs<N>, cursor: &mut Cursor<'_>) -> Result<ArgsKind, ParseError> {
-        type ByName = (
-            Word<L_BRACE>,
-            Commas<NamedArg>,
-            Word<R_BRACE>,
-            Word<R_PAREN>,
-        );
+        type End = (Word<R_BRACE>, Word<R_PAREN>);
+        type ByName = (Word<L_BRACE>, Commas<NamedArg>, End);
         match <Either<InOrder, ByName> as Parse<Exprs<N>>>::parse(reader, cursor)? {
             First(exprs) => Ok(ArgsKind::Positional(exprs.0)),
-            Second((_, args, _, _)) => Ok(ArgsKind::Named(args.0)),
+            Second((_, args, _)) => Ok(ArgsKind::Named(args.0)),
         }
     }
 }

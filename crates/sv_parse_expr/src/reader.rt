@@ -2,13 +2,8 @@
 //! proved by itself.
 #![tactic(auto, using(sv_read::proofs::Reading::fails_memory))]
 
-ghost use Rattle.std.specs.Prelude.{ℕ, true};
-ghost use Rattle.sv_grammar.specs.Grammar.{side};
+ghost use Rattle.sv_parse_expr.specs.ExprWords.{ℕ, true, side, args_tree, expr_tree, power_tree, type_tree, unary_tree, MayRead, Nests, Reads, inner};
 ghost use Rattle.sv_ast.specs.Syntax as g;
-ghost use Rattle.sv_ast.specs.ExprTrees.{args_tree, expr_tree, power_tree, type_tree, unary_tree};
-ghost use Rattle.sv_read.specs.Nesting.{MayRead, Nests};
-ghost use Rattle.sv_read.specs.PartReading.{Reads};
-ghost use Rattle.sv_parse_expr.specs.Inner.{inner};
 
 use crate::operators::{expr_rule, power_rule, unary_rule};
 use crate::types::type_rule;

@@ -1,9 +1,6 @@
 //! The symbols of a list of tokens.
 
-ghost use Rattle.std.specs.Prelude.{◌^◌, ◌<◌, length, IfOk};
-ghost use Rattle.sv_grammar.specs.Named.{Grows};
-ghost use Rattle.sv_parse_expr.specs.Answers.{AddsTexts};
-ghost use Rattle.sv_parse_expr.specs.Exact.{Show};
+ghost use Rattle.sv_parse_expr.specs.ExprWords.{◌^◌, ◌<◌, length, IfOk, Grows, AddsTexts, Show};
 
 use sqlite_items::Items;
 use std::alloc::Global;

@@ -1,15 +1,8 @@
 //! Types.
 #![tactic(auto, using(sv_read::proofs::Reading::fails_memory))]
 
-ghost use Rattle.std.specs.Prelude.{◌≡◌, refl};
-ghost use Rattle.sv_grammar.specs.Grammar.{elem, side};
+ghost use Rattle.sv_parse_expr.specs.ExprWords.{◌≡◌, refl, elem, side, brackets, firsts, dimension_tree, plain_kind_tree, plain_tree, type_tree, seen, Reads, May};
 ghost use Rattle.sv_ast.specs.Syntax as g;
-ghost use Rattle.sv_ast.specs.Syntax.{brackets};
-ghost use Rattle.sv_ast.specs.Firsts.{firsts};
-ghost use Rattle.sv_ast.specs.ExprTrees.{dimension_tree, plain_kind_tree, plain_tree, type_tree};
-ghost use Rattle.sv_read.specs.Here.{seen};
-ghost use Rattle.sv_read.specs.PartReading.{Reads};
-ghost use Rattle.sv_parse_expr.specs.Inner.{May};
 
 use crate::reader::{Exprs, NestedExprs};
 use sqlite_items::Boxed;
@@ -19,7 +12,7 @@ use sv_read::words::{
     ADDRESS, ARROW, DOT, ELEMENTARY, L_BRACKET, L_PAREN, MAPPING, PAYABLE, R_BRACKET, R_PAREN,
     STRING,
 };
-use sv_read::{Begins, Class, Cursor, Extent, Kept, Parse, ParseError, Word, behind};
+use sv_read::{Begins, Class, Cursor, Kept, Parse, ParseError, Word, behind, placed};
 use sv_text::Name;
 
 /// A type, as `uint256[3][]`.
@@ -30,9 +23,7 @@ pub fn type_rule<N: NestedExprs>(
     requires { May N.nests N.floor reader.now.nested (g.rules g.type) cursor.old.at }
     ensures { Reads type_tree (side g.type) cursor.old result cursor.new }
 {
-    let from = cursor.at();
-    let (plain, dimensions) = Parse::parse(reader, cursor)?;
-    let Extent { span, place } = cursor.extent(from);
+    let ((plain, dimensions), span, place) = placed(reader, cursor)?;
     Ok(TypeExpr {
         plain,
         dimensions,
@@ -94,9 +85,7 @@ impl<N: NestedExprs> Parse<Exprs<N>> for Plain {
     ghost tree = { plain_tree };
 
     fn parse(reader: &Exprs<N>, cursor: &mut Cursor<'_>) -> Result<Plain, ParseError> {
-        let from = cursor.at();
-        let kind = Parse::parse(reader, cursor)?;
-        let Extent { span, place } = cursor.extent(from);
+        let (kind, span, place) = placed(reader, cursor)?;
         Ok(Plain { kind, span, place })
     }
 }
@@ -109,16 +98,9 @@ impl<N: NestedExprs> Parse<Exprs<N>> for PlainKind {
     fn parse(reader: &Exprs<N>, cursor: &mut Cursor<'_>) -> Result<PlainKind, ParseError> {
         type Address = (Word<ADDRESS>, Option<Word<PAYABLE>>);
         type Named = (Name, Option<(Word<DOT>, Name)>);
-        type Mapping = (
-            Word<MAPPING>,
-            Word<L_PAREN>,
-            Boxed<TypeExpr>,
-            Option<Name>,
-            Word<ARROW>,
-            Boxed<TypeExpr>,
-            Option<Name>,
-            Word<R_PAREN>,
-        );
+        type Value = (Boxed<TypeExpr>, Option<Name>, Word<R_PAREN>);
+        type Key = (Boxed<TypeExpr>, Option<Name>, Word<ARROW>, Value);
+        type Mapping = (Word<MAPPING>, Word<L_PAREN>, Key);
         type Told = Either<Word<STRING>, Either<Named, Mapping>>;
         type Forms = Either<Kept<ELEMENTARY>, Either<Address, Told>>;
         match <Forms as Parse<Exprs<N>>>::parse(reader, cursor)? {
@@ -131,12 +113,12 @@ impl<N: NestedExprs> Parse<Exprs<N>> for PlainKind {
                 name,
                 member: behind(member),
             }),
-            Second(Second(Second(Second((_, _, key, key_name, _, value, value_name, _))))) => {
+            Second(Second(Second(Second((_, _, (key, key_name, _, value)))))) => {
                 Ok(PlainKind::Mapping {
                     key,
                     key_name,
-                    value,
-                    value_name,
+                    value: value.0,
+                    value_name: value.1,
                 })
             }
         }

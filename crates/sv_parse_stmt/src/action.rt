@@ -1,12 +1,8 @@
 //! Expressions that stand alone, assignments and deletions.
 #![tactic(auto, using(sv_read::proofs::Reading::fails_memory))]
 
-ghost use Rattle.std.specs.Prelude.{◌≡◌, refl};
-ghost use Rattle.sv_grammar.specs.Grammar.{elem, side};
+ghost use Rattle.sv_parse_stmt.specs.StmtWords.{◌≡◌, refl, elem, side, ◌⊙◌, firsts, action_tree, action_kind_tree, assignment_tree, assign_op_tree, assign_op_kind_tree};
 ghost use Rattle.sv_ast.specs.Syntax as g;
-ghost use Rattle.sv_ast.specs.Syntax.{◌⊙◌};
-ghost use Rattle.sv_ast.specs.Firsts.{firsts};
-ghost use Rattle.sv_ast.specs.SimpleTrees.{action_tree, action_kind_tree, assignment_tree, assign_op_tree, assign_op_kind_tree};
 
 use crate::reader::{NestedStmts, Statements};
 use sv_ast::{Action, ActionKind, AssignOp, AssignOpKind, Assignment, Expr};
@@ -15,7 +11,7 @@ use sv_read::Either::{self, First, Second};
 use sv_read::words::{
     DELETE, DIVIDE_EQUALS, EQUALS, MINUS_EQUALS, PLUS_EQUALS, REMAINDER_EQUALS, TIMES_EQUALS,
 };
-use sv_read::{Begins, Class, Cursor, Extent, Parse, ParseError, Word};
+use sv_read::{Begins, Class, Cursor, Parse, ParseError, Word, placed};
 
 /// An expression, an assignment or a `delete`.
 impl<N: NestedStmts> Parse<Statements<N>> for Action {
@@ -24,9 +20,7 @@ impl<N: NestedStmts> Parse<Statements<N>> for Action {
     ghost tree = { action_tree };
 
     fn parse(reader: &Statements<N>, cursor: &mut Cursor<'_>) -> Result<Action, ParseError> {
-        let from = cursor.at();
-        let kind = Parse::parse(reader, cursor)?;
-        let Extent { span, place } = cursor.extent(from);
+        let (kind, span, place) = placed(reader, cursor)?;
         Ok(Action { kind, span, place })
     }
 }
@@ -87,9 +81,7 @@ impl<N: NestedStmts> Parse<Statements<N>> for AssignOp {
     ghost tree = { assign_op_tree };
 
     fn parse(reader: &Statements<N>, cursor: &mut Cursor<'_>) -> Result<AssignOp, ParseError> {
-        let from = cursor.at();
-        let kind = Parse::parse(reader, cursor)?;
-        let Extent { span, place } = cursor.extent(from);
+        let (kind, span, place) = placed(reader, cursor)?;
         Ok(AssignOp { kind, span, place })
     }
 }

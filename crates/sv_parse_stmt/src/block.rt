@@ -1,23 +1,15 @@
 //! Statements of every kind, blocks, and the bodies of branches and loops.
 #![tactic(auto, using(sv_read::proofs::Reading::fails_memory))]
 
-ghost use Rattle.std.specs.Prelude.{◌≡◌, [], refl};
-ghost use Rattle.sv_grammar.specs.Grammar.{elem, side};
-ghost use Rattle.sv_ast.specs.Trees.{last};
+ghost use Rattle.sv_parse_stmt.specs.StmtWords.{◌≡◌, [], refl, elem, side, last, firsts, block_tree, body_tree, body_kind_tree, for_tree, stmt_tree, stmt_kind_tree, while_tree, MayRead, leads, Reads, either_tree, inner};
 ghost use Rattle.sv_ast.specs.Syntax as g;
-ghost use Rattle.sv_ast.specs.Firsts.{firsts};
-ghost use Rattle.sv_ast.specs.StmtTrees.{block_tree, body_tree, body_kind_tree, for_tree, stmt_tree, stmt_kind_tree, while_tree};
-ghost use Rattle.sv_read.specs.Nesting.{MayRead, leads};
-ghost use Rattle.sv_read.specs.PartReading.{Reads};
-ghost use Rattle.sv_read.specs.EitherTree.{either_tree};
-ghost use Rattle.sv_parse_stmt.specs.StmtParts.{inner};
 
 use crate::reader::{NestedStmts, Statements};
 use sqlite_items::Items;
 use sv_ast::{Block, Body, BodyKind, For, If, Simple, Stmt, StmtKind, While};
 use sv_read::Either::{self, First, Second};
 use sv_read::words::{L_BRACE, R_BRACE, SEMICOLON, UNCHECKED};
-use sv_read::{Begins, Both, Class, Classes, Cursor, Extent, Parse, ParseError, Word};
+use sv_read::{Begins, Both, Class, Classes, Cursor, Parse, ParseError, Word, placed};
 
 /// A statement of any kind.
 pub fn stmt_rule<N: NestedStmts>(
@@ -27,9 +19,7 @@ pub fn stmt_rule<N: NestedStmts>(
     requires { MayRead (N.nests reader.now.nested) (N.floor reader.now.nested) (leads inner (g.rules g.stmt)) cursor.old.at }
     ensures { Reads stmt_tree (side g.stmt) cursor.old result cursor.new }
 {
-    let from = cursor.at();
-    let kind = Parse::parse(reader, cursor)?;
-    let Extent { span, place } = cursor.extent(from);
+    let (kind, span, place) = placed(reader, cursor)?;
     Ok(Stmt { kind, span, place })
 }
 
@@ -92,10 +82,8 @@ impl<N: NestedStmts> Parse<Statements<N>> for Block {
     ghost tree = { block_tree };
 
     fn parse(reader: &Statements<N>, cursor: &mut Cursor<'_>) -> Result<Block, ParseError> {
-        let from = cursor.at();
         type Parts = (Word<L_BRACE>, Items<Stmt>, Word<R_BRACE>);
-        let (_, stmts, _) = <Parts as Parse<Statements<N>>>::parse(reader, cursor)?;
-        let Extent { span, place } = cursor.extent(from);
+        let ((_, stmts, _), span, place) = placed::<_, Parts>(reader, cursor)?;
         Ok(Block { stmts, span, place })
     }
 }
@@ -115,9 +103,7 @@ impl<N: NestedStmts> Parse<Statements<N>> for Body {
     ghost tree = { body_tree };
 
     fn parse(reader: &Statements<N>, cursor: &mut Cursor<'_>) -> Result<Body, ParseError> {
-        let from = cursor.at();
-        let kind = Parse::parse(reader, cursor)?;
-        let Extent { span, place } = cursor.extent(from);
+        let (kind, span, place) = placed(reader, cursor)?;
         Ok(Body { kind, span, place })
     }
 }

@@ -1,17 +1,14 @@
 //! Declarations of variables, and where their values lie.
 #![tactic(auto, using(sv_read::proofs::Reading::fails_memory))]
 
-ghost use Rattle.std.specs.Prelude.{◌≡◌, false, refl};
-ghost use Rattle.sv_grammar.specs.Grammar.{elem, side};
+ghost use Rattle.sv_parse_stmt.specs.StmtWords.{◌≡◌, false, refl, elem, side, decl_tree, location_tree, location_kind_tree, Reads};
 ghost use Rattle.sv_ast.specs.Syntax as g;
-ghost use Rattle.sv_ast.specs.SimpleTrees.{decl_tree, location_tree, location_kind_tree};
-ghost use Rattle.sv_read.specs.PartReading.{Reads};
 
 use crate::reader::{NestedStmts, Statements};
 use sv_ast::{Decl, Expr, TypeExpr, Where, WhereKind};
 use sv_read::Either::{self, First, Second};
 use sv_read::words::{CALLDATA, EQUALS, MEMORY, STORAGE};
-use sv_read::{Begins, Class, Cursor, Extent, Nested, Parse, ParseError, Word, behind};
+use sv_read::{Begins, Class, Cursor, Nested, Parse, ParseError, Word, behind, placed};
 use sv_text::Name;
 
 /// A declaration of a variable, as `uint256[] memory a = b`.
@@ -21,12 +18,8 @@ impl<N: NestedStmts> Parse<Statements<N>> for Decl {
     ghost tree = { decl_tree };
 
     fn parse(reader: &Statements<N>, cursor: &mut Cursor<'_>) -> Result<Decl, ParseError> {
-        let from = cursor.at();
         type Parts = (TypeExpr, Option<Where>, Name, Option<(Word<EQUALS>, Expr)>);
-        let (of_type, location, name, value) = <Parts as Parse<Statements<N>>>::parse(
-            reader, cursor,
-        )?;
-        let Extent { span, place } = cursor.extent(from);
+        let ((of_type, location, name, value), span, place) = placed::<_, Parts>(reader, cursor)?;
         Ok(Decl {
             of_type,
             location,
@@ -72,9 +65,7 @@ impl Nested for Alone {
 pub fn read_location(cursor: &mut Cursor<'_>) -> Result<Where, ParseError>
     ensures { Reads location_tree (side g.location) cursor.old result cursor.new }
 {
-    let from = cursor.at();
-    let kind = Parse::parse(&Alone, cursor)?;
-    let Extent { span, place } = cursor.extent(from);
+    let (kind, span, place) = placed(&Alone, cursor)?;
     Ok(Where { kind, span, place })
 }
 

@@ -1,13 +1,8 @@
 //! Conditions with their branches.
 #![tactic(auto, using(sv_read::proofs::Reading::fails_memory))]
 
-ghost use Rattle.std.specs.Prelude.{◌≡◌, false, refl};
-ghost use Rattle.sv_grammar.specs.Grammar.{opt, side};
+ghost use Rattle.sv_parse_stmt.specs.StmtWords.{◌≡◌, false, refl, opt, side, if_tree, MayRead, Reads, ended_tree};
 ghost use Rattle.sv_ast.specs.Syntax as g;
-ghost use Rattle.sv_ast.specs.StmtTrees.{if_tree};
-ghost use Rattle.sv_read.specs.Nesting.{MayRead};
-ghost use Rattle.sv_read.specs.PartReading.{Reads};
-ghost use Rattle.sv_parse_stmt.specs.Branches.{ended_tree};
 
 use crate::reader::{NestedStmts, Statements};
 use sqlite_items::Items;

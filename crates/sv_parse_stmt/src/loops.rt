@@ -1,11 +1,8 @@
 //! Loops.
 #![tactic(auto, using(sv_read::proofs::Reading::fails_memory))]
 
-ghost use Rattle.std.specs.Prelude.{◌≡◌, refl};
-ghost use Rattle.sv_grammar.specs.Grammar.{both, elem, side};
+ghost use Rattle.sv_parse_stmt.specs.StmtWords.{◌≡◌, refl, both, elem, side, but_semicolon, for_tree, for_start_tree, keyword_tree, while_tree};
 ghost use Rattle.sv_ast.specs.Syntax as g;
-ghost use Rattle.sv_ast.specs.Syntax.{but_semicolon};
-ghost use Rattle.sv_ast.specs.StmtTrees.{for_tree, for_start_tree, keyword_tree, while_tree};
 
 use crate::reader::{NestedStmts, Statements};
 use crate::simple::ButSemicolon;
@@ -13,8 +10,8 @@ use sqlite_items::Items;
 use sv_ast::{Action, Body, Decl, Expr, For, ForStart, Keyword, Note, While};
 use sv_parse_expr::sees_type;
 use sv_read::Either::{First, Second};
-use sv_read::words::{L_PAREN, R_PAREN, SEMICOLON};
-use sv_read::{Begins, Both, Class, Cursor, Extent, Parse, ParseError, Word};
+use sv_read::words::{FOR, L_PAREN, R_PAREN, SEMICOLON, WHILE};
+use sv_read::{Begins, Both, Cursor, Parse, ParseError, Word, placed};
 
 /// `while`, with its place.
 #[derive(Drop)]
@@ -25,10 +22,8 @@ impl<N: NestedStmts> Parse<Statements<N>> for WhileWord {
 
     ghost tree = { λ w. keyword_tree w.0 };
 
-    fn parse(_reader: &Statements<N>, cursor: &mut Cursor<'_>) -> Result<WhileWord, ParseError> {
-        let from = cursor.at();
-        cursor.expect(Class::While)?;
-        let Extent { span, place } = cursor.extent(from);
+    fn parse(reader: &Statements<N>, cursor: &mut Cursor<'_>) -> Result<WhileWord, ParseError> {
+        let (_, span, place) = placed::<_, Word<WHILE>>(reader, cursor)?;
         Ok(WhileWord(Keyword { span, place }))
     }
 }
@@ -42,10 +37,8 @@ impl<N: NestedStmts> Parse<Statements<N>> for ForWord {
 
     ghost tree = { λ w. keyword_tree w.0 };
 
-    fn parse(_reader: &Statements<N>, cursor: &mut Cursor<'_>) -> Result<ForWord, ParseError> {
-        let from = cursor.at();
-        cursor.expect(Class::For)?;
-        let Extent { span, place } = cursor.extent(from);
+    fn parse(reader: &Statements<N>, cursor: &mut Cursor<'_>) -> Result<ForWord, ParseError> {
+        let (_, span, place) = placed::<_, Word<FOR>>(reader, cursor)?;
         Ok(ForWord(Keyword { span, place }))
     }
 }
@@ -57,24 +50,14 @@ impl<N: NestedStmts> Parse<Statements<N>> for While {
     ghost tree = { while_tree };
 
     fn parse(reader: &Statements<N>, cursor: &mut Cursor<'_>) -> Result<While, ParseError> {
-        let from = cursor.at();
-        type Parts = (
-            Items<Note>,
-            WhileWord,
-            Word<L_PAREN>,
-            Expr,
-            Word<R_PAREN>,
-            Body,
-        );
-        let (notes, keyword, _, condition, _, body) = <Parts as Parse<Statements<N>>>::parse(
-            reader, cursor,
-        )?;
-        let Extent { span, place } = cursor.extent(from);
+        type End = (Word<R_PAREN>, Body);
+        type Parts = (Items<Note>, WhileWord, Word<L_PAREN>, Expr, End);
+        let ((notes, word, _, condition, end), span, place) = placed::<_, Parts>(reader, cursor)?;
         Ok(While {
             notes,
-            keyword: keyword.0,
+            keyword: word.0,
             condition,
-            body,
+            body: end.1,
             span,
             place,
         })
@@ -88,30 +71,17 @@ impl<N: NestedStmts> Parse<Statements<N>> for For {
     ghost tree = { for_tree };
 
     fn parse(reader: &Statements<N>, cursor: &mut Cursor<'_>) -> Result<For, ParseError> {
-        let from = cursor.at();
-        type Parts = (
-            Items<Note>,
-            ForWord,
-            Word<L_PAREN>,
-            Option<ForStart>,
-            Word<SEMICOLON>,
-            Option<Expr>,
-            Word<SEMICOLON>,
-            Option<Action>,
-            Word<R_PAREN>,
-            Body,
-        );
-        let (notes, keyword, _, start, _, condition, _, step, _, body) = <Parts as Parse<
-            Statements<N>,
-        >>::parse(reader, cursor)?;
-        let Extent { span, place } = cursor.extent(from);
+        type Step = (Option<Action>, Word<R_PAREN>, Body);
+        type Test = (Word<SEMICOLON>, Option<Expr>, Word<SEMICOLON>, Step);
+        type Parts = (Items<Note>, ForWord, Word<L_PAREN>, Option<ForStart>, Test);
+        let ((notes, word, _, start, test), span, place) = placed::<_, Parts>(reader, cursor)?;
         Ok(For {
             notes,
-            keyword: keyword.0,
+            keyword: word.0,
             start,
-            condition,
-            step,
-            body,
+            condition: test.1,
+            step: test.3.0,
+            body: test.3.2,
             span,
             place,
         })

@@ -1,13 +1,8 @@
 //! A statement of a text's tokens as a tree.
 #![tactic(auto, using(sv_read::proofs::Reading::fails_memory))]
 
-ghost use Rattle.std.specs.Prelude.{◌^◌, ◌<◌, ◌≤◌, length};
-ghost use Rattle.sv_grammar.specs.Grammar.{side};
-ghost use Rattle.sv_grammar.specs.Named.{Grows};
+ghost use Rattle.sv_parse_stmt.specs.StmtWords.{◌^◌, ◌<◌, ◌≤◌, length, side, Grows, stmt_tree, HasNo, IsDeep, AddsTexts, Answers};
 ghost use Rattle.sv_ast.specs.Syntax as g;
-ghost use Rattle.sv_ast.specs.StmtTrees.{stmt_tree};
-ghost use Rattle.sv_lex.specs.Limits.{HasNo, IsDeep};
-ghost use Rattle.sv_parse_expr.specs.Answers.{AddsTexts, Answers};
 
 use crate::reader::read_stmt;
 use std::alloc::Global;

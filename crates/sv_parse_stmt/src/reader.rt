@@ -2,16 +2,8 @@
 //! these is proved by itself.
 #![tactic(auto, using(sv_read::proofs::Reading::fails_memory))]
 
-ghost use Rattle.std.specs.Prelude.{◌≡◌, ℕ, ◌<◌, refl};
-ghost use Rattle.sv_grammar.specs.Grammar.{elem, side};
+ghost use Rattle.sv_parse_stmt.specs.StmtWords.{◌≡◌, ℕ, ◌<◌, refl, elem, side, firsts, args_tree, expr_tree, type_tree, note_tree, block_tree, stmt_tree, Nests, Reads, inner};
 ghost use Rattle.sv_ast.specs.Syntax as g;
-ghost use Rattle.sv_ast.specs.Firsts.{firsts};
-ghost use Rattle.sv_ast.specs.ExprTrees.{args_tree, expr_tree, type_tree};
-ghost use Rattle.sv_ast.specs.SimpleTrees.{note_tree};
-ghost use Rattle.sv_ast.specs.StmtTrees.{block_tree, stmt_tree};
-ghost use Rattle.sv_read.specs.Nesting.{Nests};
-ghost use Rattle.sv_read.specs.PartReading.{Reads};
-ghost use Rattle.sv_parse_stmt.specs.StmtParts.{inner};
 
 use crate::block::stmt_rule;
 use sv_ast::{Args, Block, Expr, Note, Stmt, TypeExpr};

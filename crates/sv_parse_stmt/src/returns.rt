@@ -1,12 +1,9 @@
 //! `return`, with its values.
 #![tactic(auto, using(sv_read::proofs::Reading::fails_memory))]
 
-ghost use Rattle.std.specs.Prelude.{◌≡◌, refl};
-ghost use Rattle.sv_grammar.specs.Grammar.{both, elem, side};
+ghost use Rattle.sv_parse_stmt.specs.StmtWords.{◌≡◌, refl, both, elem, side, but_semicolon, listed, quoted, ◌⊙◌, return_tree, returned_tree};
 ghost use Rattle.sv_ast.specs.declared.class.Class.TheVariants as k;
 ghost use Rattle.sv_ast.specs.Syntax as g;
-ghost use Rattle.sv_ast.specs.Syntax.{but_semicolon, listed, quoted, ◌⊙◌};
-ghost use Rattle.sv_ast.specs.SimpleTrees.{return_tree, returned_tree};
 
 use crate::reader::{NestedStmts, Statements};
 use crate::simple::ButSemicolon;
@@ -15,7 +12,7 @@ use sv_ast::{Expr, Return, Returned};
 use sv_parse_expr::sees_expr;
 use sv_read::Either::{First, Second};
 use sv_read::words::{L_PAREN, R_PAREN, RETURN};
-use sv_read::{Begins, Both, Class, Cursor, Extent, Parse, ParseError, Word};
+use sv_read::{Begins, Both, Class, Cursor, Parse, ParseError, Word, placed};
 
 /// A return, as `return a` or `return (a, b)`.
 impl<N: NestedStmts> Parse<Statements<N>> for Return {
@@ -24,10 +21,8 @@ impl<N: NestedStmts> Parse<Statements<N>> for Return {
     ghost tree = { return_tree };
 
     fn parse(reader: &Statements<N>, cursor: &mut Cursor<'_>) -> Result<Return, ParseError> {
-        let from = cursor.at();
         type Parts = (Word<RETURN>, Option<Returned>);
-        let (_, values) = <Parts as Parse<Statements<N>>>::parse(reader, cursor)?;
-        let Extent { span, place } = cursor.extent(from);
+        let ((_, values), span, place) = placed::<_, Parts>(reader, cursor)?;
         Ok(Return {
             values,
             span,

@@ -1,19 +1,14 @@
 //! Statements that end with `;`, without it.
 #![tactic(auto, using(sv_read::proofs::Reading::fails_memory))]
 
-ghost use Rattle.std.specs.Prelude.{◌≡◌, refl};
-ghost use Rattle.sv_grammar.specs.Grammar.{elem, side};
-ghost use Rattle.sv_ast.specs.Trees.{last};
+ghost use Rattle.sv_parse_stmt.specs.StmtWords.{◌≡◌, refl, elem, side, last, but_semicolon, simple_tree, simple_kind_tree, told_tree};
 ghost use Rattle.sv_ast.specs.Syntax as g;
-ghost use Rattle.sv_ast.specs.Syntax.{but_semicolon};
-ghost use Rattle.sv_ast.specs.SimpleTrees.{simple_tree, simple_kind_tree};
-ghost use Rattle.sv_parse_stmt.specs.StmtParts.{told_tree};
 
 use crate::reader::{NestedStmts, Statements};
 use sv_ast::{Action, Args, Decl, ForStart, Return, Simple, SimpleKind, Tuple};
 use sv_read::Either::{self, First, Second};
 use sv_read::words::{BREAK, CONTINUE, EMIT, REVERT, UNDERSCORE};
-use sv_read::{Begins, Both, Class, Classes, Cursor, Extent, Parse, ParseError, Word};
+use sv_read::{Begins, Both, Class, Classes, Cursor, Parse, ParseError, Word, placed};
 use sv_text::Name;
 
 /// The classes by which a part goes on in place of a `;`.
@@ -30,9 +25,7 @@ impl<N: NestedStmts> Parse<Statements<N>> for Simple {
     ghost tree = { simple_tree };
 
     fn parse(reader: &Statements<N>, cursor: &mut Cursor<'_>) -> Result<Simple, ParseError> {
-        let from = cursor.at();
-        let kind = Parse::parse(reader, cursor)?;
-        let Extent { span, place } = cursor.extent(from);
+        let (kind, span, place) = placed(reader, cursor)?;
         Ok(Simple { kind, span, place })
     }
 }

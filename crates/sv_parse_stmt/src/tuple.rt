@@ -1,12 +1,8 @@
 //! Several targets at once, with the value that fills them.
 #![tactic(auto, using(sv_read::proofs::Reading::fails_memory))]
 
-ghost use Rattle.std.specs.Prelude.{◌≡◌, refl};
-ghost use Rattle.sv_grammar.specs.Grammar.{both, elem, opt, side};
+ghost use Rattle.sv_parse_stmt.specs.StmtWords.{◌≡◌, refl, both, elem, opt, side, id, ◌⊙◌, slot_tree, slot_kind_tree, tuple_tree, but_name};
 ghost use Rattle.sv_ast.specs.Syntax as g;
-ghost use Rattle.sv_ast.specs.Syntax.{id, ◌⊙◌};
-ghost use Rattle.sv_ast.specs.SimpleTrees.{slot_tree, slot_kind_tree, tuple_tree};
-ghost use Rattle.sv_parse_stmt.specs.StmtParts.{but_name};
 
 use crate::reader::{NestedStmts, Statements};
 use crate::two_or_more::TwoOrMore;
@@ -14,7 +10,7 @@ use sv_ast::{Expr, Slot, SlotKind, Tuple, TypeExpr, Where};
 use sv_parse_expr::sees_type;
 use sv_read::Either::{First, Second};
 use sv_read::words::{EQUALS, L_PAREN, R_PAREN};
-use sv_read::{Begins, Both, Classes, Cursor, Extent, Parse, ParseError, Word};
+use sv_read::{Begins, Both, Classes, Cursor, Parse, ParseError, Word, placed};
 use sv_text::Name;
 
 /// Two slots or more and the value that fills them, as `(a, , uint256 b) = f()`.
@@ -24,11 +20,9 @@ impl<N: NestedStmts> Parse<Statements<N>> for Tuple {
     ghost tree = { tuple_tree };
 
     fn parse(reader: &Statements<N>, cursor: &mut Cursor<'_>) -> Result<Tuple, ParseError> {
-        let from = cursor.at();
         type Filling = (Word<R_PAREN>, Word<EQUALS>, Expr);
         type Parts = (Word<L_PAREN>, TwoOrMore<Slot, Filling>);
-        let (_, slots) = <Parts as Parse<Statements<N>>>::parse(reader, cursor)?;
-        let Extent { span, place } = cursor.extent(from);
+        let ((_, slots), span, place) = placed::<_, Parts>(reader, cursor)?;
         Ok(Tuple {
             slots: slots.items,
             value: slots.behind.2,
@@ -45,9 +39,7 @@ impl<N: NestedStmts> Parse<Statements<N>> for Slot {
     ghost tree = { slot_tree };
 
     fn parse(reader: &Statements<N>, cursor: &mut Cursor<'_>) -> Result<Slot, ParseError> {
-        let from = cursor.at();
-        let kind = Parse::parse(reader, cursor)?;
-        let Extent { span, place } = cursor.extent(from);
+        let (kind, span, place) = placed(reader, cursor)?;
         Ok(Slot { kind, span, place })
     }
 }

@@ -1,11 +1,8 @@
 //! Two or more, with commas between, and what stands behind them.
 #![tactic(auto, using(sv_read::proofs::Reading::fails_memory))]
 
-ghost use Rattle.std.specs.Prelude.{◌≡◌, ◌∷◌, IfOk, map};
-ghost use Rattle.sv_grammar.specs.Grammar.{seq};
+ghost use Rattle.sv_parse_stmt.specs.StmtWords.{◌≡◌, ◌∷◌, IfOk, map, seq, listed, quoted, two_or_more};
 ghost use Rattle.sv_ast.specs.declared.class.Class.TheVariants as k;
-ghost use Rattle.sv_ast.specs.Syntax.{listed, quoted};
-ghost use Rattle.sv_ast.specs.SimpleTrees.{two_or_more};
 
 use crate::reader::{NestedStmts, Statements};
 use sqlite_items::Items;

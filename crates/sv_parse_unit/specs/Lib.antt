@@ -1,1 +1,2 @@
 pub mod AnswersUnit
+pub mod UnitWords

@@ -1,17 +1,10 @@
 //! Contracts and interfaces, their bases, and what stands in them.
 
-ghost use Rattle.std.specs.Prelude.{◌≡◌, [], map, refl};
-ghost use Rattle.sv_grammar.specs.Grammar.{elem, name, opt, side, star, unit};
-ghost use Rattle.sv_grammar.specs.ListTrees.{list_tree};
+ghost use Rattle.sv_parse_unit.specs.UnitWords.{◌≡◌, [], map, refl, elem, name, opt, side, star, unit, list_tree, ◌⊗◌, last, optional_word, id, listed, quoted, ◌⊙◌, ◌∣◌, note_tree, base_list_tree, base_tree, bases_tree, contract_kind_tree, contract_tree, ctor_tree, function_tree, part_kind_tree, part_tree, var_word_kind_tree, var_word_tree, variable_tree, variable_word_tree, either_tree};
 ghost use Rattle.sv_ast.specs.declared.class.Class.TheVariants as k;
-ghost use Rattle.sv_ast.specs.Trees.{◌⊗◌, last, optional_word};
 ghost use Rattle.sv_ast.specs.Syntax as g;
-ghost use Rattle.sv_ast.specs.Syntax.{id, listed, quoted, ◌⊙◌, ◌∣◌};
-ghost use Rattle.sv_ast.specs.SimpleTrees.{note_tree};
-ghost use Rattle.sv_ast.specs.ContractTrees.{base_list_tree, base_tree, bases_tree, contract_kind_tree, contract_tree, ctor_tree, function_tree, part_kind_tree, part_tree, var_word_kind_tree, var_word_tree, variable_tree, variable_word_tree};
-ghost use Rattle.sv_read.specs.EitherTree.{either_tree};
 
-use crate::reader::{Units, placed};
+use crate::reader::Units;
 use sqlite_items::Items;
 use sv_ast::{
     Args, Base, Bases, Contract, ContractKind, Ctor, Enum, Error, Event, Expr, Function, Modifier,
@@ -24,7 +17,9 @@ use sv_read::words::{
     ABSTRACT, CONSTANT, CONTRACT, EQUALS, IMMUTABLE, INTERFACE, INTERNAL, IS, L_BRACE, PRIVATE,
     PUBLIC, R_BRACE, SEMICOLON,
 };
-use sv_read::{Begins, Both, Class, Classes, Cursor, Listed, Parse, ParseError, Word, behind};
+use sv_read::{
+    Begins, Both, Class, Classes, Cursor, Listed, Parse, ParseError, Word, behind, placed,
+};
 use sv_text::Name;
 
 /// A contract or an interface, as `contract C is B { .. }`.
@@ -113,7 +108,7 @@ impl Parse<Units> for Bases {
     ghost tree = { bases_tree };
 
     fn parse(reader: &Units, cursor: &mut Cursor<'_>) -> Result<Bases, ParseError> {
-        let (bases, span, place) = placed::<BaseList>(reader, cursor)?;
+        let (bases, span, place) = placed::<_, BaseList>(reader, cursor)?;
         Ok(Bases {
             bases: bases.0,
             span,
@@ -263,7 +258,7 @@ impl Parse<Units> for Variable {
     fn parse(reader: &Units, cursor: &mut Cursor<'_>) -> Result<Variable, ParseError> {
         type Value = Option<(Word<EQUALS>, Expr)>;
         type Parts = (TypeExpr, Items<VariableWord>, Name, Value, Word<SEMICOLON>);
-        let ((of_type, words, name, value, _), span, place) = placed::<Parts>(reader, cursor)?;
+        let ((of_type, words, name, value, _), span, place) = placed::<_, Parts>(reader, cursor)?;
         Ok(Variable {
             of_type,
             words,

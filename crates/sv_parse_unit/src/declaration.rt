@@ -1,17 +1,15 @@
 //! Structs, enums, events and errors.
 
-ghost use Rattle.std.specs.Prelude.{◌≡◌, refl};
-ghost use Rattle.sv_grammar.specs.Grammar.{elem, side};
+ghost use Rattle.sv_parse_unit.specs.UnitWords.{◌≡◌, refl, elem, side, enum_tree, er_par_tree, error_tree, ev_par_tree, event_tree, field_tree, struct_tree};
 ghost use Rattle.sv_ast.specs.Syntax as g;
-ghost use Rattle.sv_ast.specs.DeclarationTrees.{enum_tree, er_par_tree, error_tree, ev_par_tree, event_tree, field_tree, struct_tree};
 
-use crate::reader::{Several, Units, placed};
+use crate::reader::{Several, Units};
 use sv_ast::{Enum, ErPar, Error, EvPar, Event, Field, Struct, TypeExpr};
 use sv_parse_expr::sees_type;
 use sv_read::words::{
     ANONYMOUS, ENUM, ERROR, EVENT, INDEXED, L_BRACE, L_PAREN, R_BRACE, R_PAREN, SEMICOLON, STRUCT,
 };
-use sv_read::{Begins, Class, Commas, Cursor, Listed, Parse, ParseError, Word};
+use sv_read::{Begins, Class, Commas, Cursor, Listed, Parse, ParseError, Word, placed};
 use sv_text::Name;
 
 /// A struct with one field or more, as `struct S { uint256 a; }`.
@@ -21,17 +19,12 @@ impl Parse<Units> for Struct {
     ghost tree = { struct_tree };
 
     fn parse(reader: &Units, cursor: &mut Cursor<'_>) -> Result<Struct, ParseError> {
-        type Parts = (
-            Word<STRUCT>,
-            Name,
-            Word<L_BRACE>,
-            Several<Field>,
-            Word<R_BRACE>,
-        );
-        let ((_, name, _, fields, _), span, place) = placed::<Parts>(reader, cursor)?;
+        type Fields = (Several<Field>, Word<R_BRACE>);
+        type Parts = (Word<STRUCT>, Name, Word<L_BRACE>, Fields);
+        let ((_, name, _, fields), span, place) = placed::<_, Parts>(reader, cursor)?;
         Ok(Struct {
             name,
-            fields: fields.0,
+            fields: fields.0.0,
             span,
             place,
         })
@@ -54,7 +47,7 @@ impl Parse<Units> for Field {
 
     fn parse(reader: &Units, cursor: &mut Cursor<'_>) -> Result<Field, ParseError> {
         type Parts = (TypeExpr, Name, Word<SEMICOLON>);
-        let ((of_type, name, _), span, place) = placed::<Parts>(reader, cursor)?;
+        let ((of_type, name, _), span, place) = placed::<_, Parts>(reader, cursor)?;
         Ok(Field {
             of_type,
             name,
@@ -80,7 +73,7 @@ impl Parse<Units> for Enum {
 
     fn parse(reader: &Units, cursor: &mut Cursor<'_>) -> Result<Enum, ParseError> {
         type Parts = (Word<ENUM>, Name, Word<L_BRACE>, Listed<Name>, Word<R_BRACE>);
-        let ((_, name, _, members, _), span, place) = placed::<Parts>(reader, cursor)?;
+        let ((_, name, _, members, _), span, place) = placed::<_, Parts>(reader, cursor)?;
         Ok(Enum {
             name,
             members: members.0,
@@ -107,7 +100,7 @@ impl Parse<Units> for Event {
     fn parse(reader: &Units, cursor: &mut Cursor<'_>) -> Result<Event, ParseError> {
         type End = (Word<R_PAREN>, Option<Word<ANONYMOUS>>, Word<SEMICOLON>);
         type Parts = (Word<EVENT>, Name, Word<L_PAREN>, Commas<EvPar>, End);
-        let ((_, name, _, params, end), span, place) = placed::<Parts>(reader, cursor)?;
+        let ((_, name, _, params, end), span, place) = placed::<_, Parts>(reader, cursor)?;
         Ok(Event {
             name,
             params: params.0,
@@ -134,7 +127,7 @@ impl Parse<Units> for EvPar {
 
     fn parse(reader: &Units, cursor: &mut Cursor<'_>) -> Result<EvPar, ParseError> {
         type Parts = (TypeExpr, Option<Word<INDEXED>>, Option<Name>);
-        let ((of_type, indexed, name), span, place) = placed::<Parts>(reader, cursor)?;
+        let ((of_type, indexed, name), span, place) = placed::<_, Parts>(reader, cursor)?;
         Ok(EvPar {
             of_type,
             is_indexed: indexed.is_some(),
@@ -162,7 +155,7 @@ impl Parse<Units> for Error {
     fn parse(reader: &Units, cursor: &mut Cursor<'_>) -> Result<Error, ParseError> {
         type End = (Word<R_PAREN>, Word<SEMICOLON>);
         type Parts = (Word<ERROR>, Name, Word<L_PAREN>, Commas<ErPar>, End);
-        let ((_, name, _, params, _), span, place) = placed::<Parts>(reader, cursor)?;
+        let ((_, name, _, params, _), span, place) = placed::<_, Parts>(reader, cursor)?;
         Ok(Error {
             name,
             params: params.0,

@@ -1,15 +1,10 @@
 //! Functions, with a name and without, and modifiers.
 
-ghost use Rattle.std.specs.Prelude.{◌≡◌, ◌∷◌, [], map, refl};
-ghost use Rattle.sv_grammar.specs.Grammar.{elem, name, opt, side, text};
+ghost use Rattle.sv_parse_unit.specs.UnitWords.{◌≡◌, ◌∷◌, [], map, refl, elem, name, opt, side, text, id, listed, quoted, ◌⊙◌, ◌∣◌, ctor_tree, function_body_tree, function_tree, head_kind_tree, head_tree, modifier_tree, modifier_word_tree, over_names_tree, over_tree, param_tree, params_tree, special_tree, code, last};
 ghost use Rattle.sv_ast.specs.declared.class.Class.TheVariants as k;
 ghost use Rattle.sv_ast.specs.Syntax as g;
-ghost use Rattle.sv_ast.specs.Syntax.{id, listed, quoted, ◌⊙◌, ◌∣◌};
-ghost use Rattle.sv_ast.specs.ContractTrees.{ctor_tree, function_body_tree, function_tree, head_kind_tree, head_tree, modifier_tree, modifier_word_tree, over_names_tree, over_tree, param_tree, params_tree, special_tree};
-ghost use Rattle.sv_ast.specs.Terminals.{code};
-ghost use Rattle.sv_ast.specs.Trees.{last};
 
-use crate::reader::{Units, placed};
+use crate::reader::Units;
 use sqlite_items::Items;
 use sv_ast::{
     Args, Block, Ctor, Function, Head, HeadKind, Modifier, ModifierWord, Note, Over, Param, Params,
@@ -21,7 +16,7 @@ use sv_read::words::{
     CONSTRUCTOR, EXTERNAL, FUNCTION, INTERNAL, L_PAREN, MODIFIER, OVERRIDE, PAYABLE, PRIVATE,
     PUBLIC, PURE, R_PAREN, RETURNS, SEMICOLON, VIEW, VIRTUAL,
 };
-use sv_read::{Begins, Class, Commas, Cursor, Listed, Parse, ParseError, Word, behind};
+use sv_read::{Begins, Class, Commas, Cursor, Listed, Parse, ParseError, Word, behind, placed};
 use sv_text::Name;
 
 /// A function, as `function f(uint256 a) public returns (uint256) { .. }`; without a body it ends with `;`.
@@ -34,7 +29,7 @@ impl Parse<Units> for Function {
         type Results = Option<(Word<RETURNS>, Params)>;
         type End = (Items<Head>, Results, Body);
         type Parts = (Items<Note>, Word<FUNCTION>, Name, Params, End);
-        let ((notes, _, name, params, end), span, place) = placed::<Parts>(reader, cursor)?;
+        let ((notes, _, name, params, end), span, place) = placed::<_, Parts>(reader, cursor)?;
         Ok(Function {
             notes,
             name,
@@ -68,7 +63,7 @@ impl Parse<Units> for Ctor {
 
     fn parse(reader: &Units, cursor: &mut Cursor<'_>) -> Result<Ctor, ParseError> {
         type Parts = (Items<Note>, Word<CONSTRUCTOR>, Params, Items<Head>, Block);
-        let ((notes, _, params, heads, body), span, place) = placed::<Parts>(reader, cursor)?;
+        let ((notes, _, params, heads, body), span, place) = placed::<_, Parts>(reader, cursor)?;
         Ok(Ctor {
             notes,
             params,
@@ -88,7 +83,7 @@ impl Parse<Units> for Special {
 
     fn parse(reader: &Units, cursor: &mut Cursor<'_>) -> Result<Special, ParseError> {
         type End = (Word<L_PAREN>, Word<R_PAREN>, Items<Head>, Block);
-        let ((notes, word, end), span, place) = placed::<(Items<Note>, SpecialWord, End)>(
+        let ((notes, word, end), span, place) = placed::<_, (Items<Note>, SpecialWord, End)>(
             reader, cursor,
         )?;
         Ok(Special {
@@ -131,19 +126,14 @@ impl Parse<Units> for Modifier {
     ghost tree = { modifier_tree };
 
     fn parse(reader: &Units, cursor: &mut Cursor<'_>) -> Result<Modifier, ParseError> {
-        type Parts = (
-            Word<MODIFIER>,
-            Name,
-            Option<Params>,
-            Items<ModifierWord>,
-            Block,
-        );
-        let ((_, name, params, words, body), span, place) = placed::<Parts>(reader, cursor)?;
+        type Ends = (Items<ModifierWord>, Block);
+        type Parts = (Word<MODIFIER>, Name, Option<Params>, Ends);
+        let ((_, name, params, ends), span, place) = placed::<_, Parts>(reader, cursor)?;
         Ok(Modifier {
             name,
             params,
-            words,
-            body,
+            words: ends.0,
+            body: ends.1,
             span,
             place,
         })
@@ -189,7 +179,7 @@ impl Parse<Units> for Params {
 
     fn parse(reader: &Units, cursor: &mut Cursor<'_>) -> Result<Params, ParseError> {
         type Parts = (Word<L_PAREN>, Commas<Param>, Word<R_PAREN>);
-        let ((_, params, _), span, place) = placed::<Parts>(reader, cursor)?;
+        let ((_, params, _), span, place) = placed::<_, Parts>(reader, cursor)?;
         Ok(Params {
             params: params.0,
             span,
@@ -304,7 +294,7 @@ impl Parse<Units> for Over {
     ghost tree = { over_tree };
 
     fn parse(reader: &Units, cursor: &mut Cursor<'_>) -> Result<Over, ParseError> {
-        let ((_, names), span, place) = placed::<(Word<OVERRIDE>, Names)>(reader, cursor)?;
+        let ((_, names), span, place) = placed::<_, (Word<OVERRIDE>, Names)>(reader, cursor)?;
         Ok(Over {
             names: names.0,
             span,

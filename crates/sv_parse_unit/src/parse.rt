@@ -1,15 +1,7 @@
 //! The tokens of a text as a tree.
 
-ghost use Rattle.std.specs.Prelude.{◌≡◌, ◌^◌, ◌<◌, ◌≤◌, length, IfOk, IfErr};
-ghost use Rattle.sv_grammar.specs.Grammar.{side};
-ghost use Rattle.sv_grammar.specs.Named.{Grows};
+ghost use Rattle.sv_parse_unit.specs.UnitWords.{◌≡◌, ◌^◌, ◌<◌, ◌≤◌, length, IfOk, IfErr, side, Grows, unit_tree, HasNo, IsDeep, Reads, AddsTexts, place_of_token, Syntax, AnswersUnit};
 ghost use Rattle.sv_ast.specs.Syntax as g;
-ghost use Rattle.sv_ast.specs.UnitTrees.{unit_tree};
-ghost use Rattle.sv_lex.specs.Limits.{HasNo, IsDeep};
-ghost use Rattle.sv_read.specs.PartReading.{Reads};
-ghost use Rattle.sv_parse_expr.specs.Answers.{AddsTexts, place_of_token};
-ghost use Rattle.sv_parse_expr.specs.declared.parse_fault.ParseFault.TheVariants.{Syntax};
-ghost use Rattle.sv_parse_unit.specs.AnswersUnit.{AnswersUnit};
 
 use crate::reader::Units;
 use std::alloc::Global;

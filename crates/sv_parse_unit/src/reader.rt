@@ -1,15 +1,7 @@
 //! The reader of whole texts: sides with where they lie, lists of one or more, and what the crates below read.
 
-ghost use Rattle.std.specs.Prelude.{◌≡◌, ◌∷◌, IfOk, false, map, refl};
-ghost use Rattle.sv_grammar.specs.Grammar.{elem, node, side};
+ghost use Rattle.sv_parse_unit.specs.UnitWords.{◌≡◌, ◌∷◌, IfOk, false, map, refl, elem, node, side, Side, extent, several, args_tree, expr_tree, type_tree, location_tree, note_tree, block_tree, MayRead, leads, Reads};
 ghost use Rattle.sv_ast.specs.Syntax as g;
-ghost use Rattle.sv_ast.specs.Syntax.{Side};
-ghost use Rattle.sv_ast.specs.Trees.{extent, several};
-ghost use Rattle.sv_ast.specs.ExprTrees.{args_tree, expr_tree, type_tree};
-ghost use Rattle.sv_ast.specs.SimpleTrees.{location_tree, note_tree};
-ghost use Rattle.sv_ast.specs.StmtTrees.{block_tree};
-ghost use Rattle.sv_read.specs.Nesting.{MayRead, leads};
-ghost use Rattle.sv_read.specs.PartReading.{Reads};
 
 use sqlite_items::Items;
 use std::alloc::{AllocError, Global};
@@ -17,7 +9,7 @@ use sv_ast::{Args, Block, Expr, Note, TypeExpr, Where};
 use sv_notes::read_note;
 use sv_parse_expr::{read_args, read_expr, read_type};
 use sv_parse_stmt::{read_block, read_location};
-use sv_read::{Begins, Class, Cursor, Extent, Nested, Parse, ParseError};
+use sv_read::{Begins, Class, Cursor, Nested, Parse, ParseError};
 use sv_text::{Place, Span};
 
 /// The reader of whole texts: in their parts nothing nests but what the crates below read.
@@ -29,20 +21,6 @@ impl Nested for Units {
     ghost floor = { λ _. 0 };
 
     ghost nests = { λ _. Unit {0} };
-}
-
-/// What the rule of a side reads, and where it lies.
-pub fn placed<A: Parse<Units>>(
-    reader: &Units,
-    cursor: &mut Cursor<'_>,
-) -> Result<(A, Span, Place), ParseError>
-    requires { MayRead (Unit {0}) 0 (leads (λ _. false) A.part) cursor.old.at }
-    ensures { (s : Side) → g.rules s ≡ A.part → Reads (λ p. node (extent p.1 p.2) (A.tree p.0)) (side s) cursor.old result cursor.new }
-{
-    let from = cursor.at();
-    let read = A::parse(reader, cursor)?;
-    let Extent { span, place } = cursor.extent(from);
-    Ok((read, span, place))
 }
 
 /// One or more.

@@ -1,22 +1,16 @@
 //! What stands in a text.
 
-ghost use Rattle.std.specs.Prelude.{◌≡◌, [], refl};
-ghost use Rattle.sv_grammar.specs.Grammar.{both, elem, side};
+ghost use Rattle.sv_parse_unit.specs.UnitWords.{◌≡◌, [], refl, both, elem, side, last, kept, quoted, ◌⊙◌, ◌∣◌, error_tree, file_const_tree, unit_item_tree, unit_tree, either_tree};
 ghost use Rattle.sv_ast.specs.declared.class.Class.TheVariants as k;
-ghost use Rattle.sv_ast.specs.Trees.{last};
 ghost use Rattle.sv_ast.specs.Syntax as g;
-ghost use Rattle.sv_ast.specs.Syntax.{kept, quoted, ◌⊙◌, ◌∣◌};
-ghost use Rattle.sv_ast.specs.DeclarationTrees.{error_tree};
-ghost use Rattle.sv_ast.specs.UnitTrees.{file_const_tree, unit_item_tree, unit_tree};
-ghost use Rattle.sv_read.specs.EitherTree.{either_tree};
 
 use crate::contract::Nowhere;
-use crate::reader::{Units, placed};
+use crate::reader::Units;
 use sv_ast::{Contract, Enum, Error, Event, Expr, FileConst, Struct, TypeExpr, Unit, UnitItem};
 use sv_parse_expr::sees_type;
 use sv_read::Either::{self, First, Second};
 use sv_read::words::{CONSTANT, EQUALS, PRAGMA, SEMICOLON};
-use sv_read::{Begins, Both, Class, Cursor, Kept, Parse, ParseError, Word};
+use sv_read::{Begins, Both, Class, Cursor, Kept, Parse, ParseError, Word, placed};
 use sv_text::Name;
 
 /// As many contracts and other items as there are.
@@ -85,7 +79,7 @@ impl Parse<Units> for FileConst {
     fn parse(reader: &Units, cursor: &mut Cursor<'_>) -> Result<FileConst, ParseError> {
         type Value = (Word<EQUALS>, Expr, Word<SEMICOLON>);
         type Parts = (TypeExpr, Word<CONSTANT>, Name, Value);
-        let ((of_type, _, name, value), span, place) = placed::<Parts>(reader, cursor)?;
+        let ((of_type, _, name, value), span, place) = placed::<_, Parts>(reader, cursor)?;
         Ok(FileConst {
             of_type,
             name,

@@ -88,6 +88,10 @@ gives_side {s} {old} {new} {t} {u} {span} {place} {from} h f e p =
       ordered = p.ordered;
     }
 
+-- the same under another name of the tree
+pub gives_as : {a : Part Side} {old new : Here} {t u : Tree} → u ≡ t → Gives a old t new → Gives a old u new
+gives_as {a} {old} {new} e p = rw e p
+
 pub fails_side : {s : Side} {old : Here} {e : ParseError} → Fails (rules s) old e → Fails (side s) old e
 fails_side (fails_at r o w) = fails_at (no_side r) o w
 fails_side no_memory = no_memory

@@ -22,7 +22,7 @@ pub use either::Either;
 pub use listed::{Commas, Led, Listed};
 pub use parse::{Begins, Nested, Parse};
 pub use parse_error::ParseError;
-pub use parts::with;
+pub use parts::{placed, with};
 pub use sv_ast::{Class, words};
 pub use symbol::{Symbol, class_of};
 pub use word::{Kept, Word, behind};

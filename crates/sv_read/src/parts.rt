@@ -1,15 +1,18 @@
 //! Parts that are made of parts.
 
 ghost use Rattle.std.specs.Prelude.{◌≡◌, IfOk};
-ghost use Rattle.sv_grammar.specs.Grammar.{Part, Tree};
-ghost use Rattle.sv_ast.specs.Syntax.{Side};
+ghost use Rattle.sv_grammar.specs.Grammar.{Part, Tree, node, side};
+ghost use Rattle.sv_ast.specs.Syntax.{Side, rules};
+ghost use Rattle.sv_ast.specs.Trees.{extent};
 ghost use Rattle.sv_read.specs.Here.{Here};
+ghost use Rattle.sv_read.specs.Nesting.{MayRead, leads};
 ghost use Rattle.sv_read.specs.PartReading.{Reads};
 
-use crate::cursor::Cursor;
+use crate::cursor::{Cursor, Extent};
 use crate::parse::{Begins, Nested, Parse};
 use crate::parse_error::ParseError;
 use sqlite_items::{Boxed, Items};
+use sv_text::{Place, Span};
 
 /// The one and then the other.
 impl<R: Nested, A: Parse<R>, B: Parse<R>> Parse<R> for (A, B) {
@@ -119,45 +122,6 @@ impl<R: Nested, A: Parse<R>, B: Parse<R>, C: Parse<R>, D: Parse<R>, E: Parse<R>>
     }
 }
 
-impl<R: Nested, A: Parse<R>, B: Parse<R>, C: Parse<R>, D: Parse<R>, E: Parse<R>, F: Parse<R>> Parse<
-    R,
-> for (A, B, C, D, E, F) {
-    ghost use Rattle.sv_grammar.specs.Grammar.{seq};
-    ghost use Rattle.sv_ast.specs.Trees.{◌⊗◌};
-
-    ghost part = { seq A.part (seq B.part (seq C.part (seq D.part (seq E.part F.part)))) };
-
-    ghost tree = { λ p. A.tree p.0 ⊗ B.tree p.1 ⊗ C.tree p.2 ⊗ D.tree p.3 ⊗ E.tree p.4 ⊗ F.tree p.5 };
-
-    fn parse(reader: &R, cursor: &mut Cursor<'_>) -> Result<(A, B, C, D, E, F), ParseError> {
-        let (a, (b, (c, (d, (e, f))))) = Parse::parse(reader, cursor)?;
-        Ok((a, b, c, d, e, f))
-    }
-}
-
-impl<
-    R: Nested,
-    A: Parse<R>,
-    B: Parse<R>,
-    C: Parse<R>,
-    D: Parse<R>,
-    E: Parse<R>,
-    F: Parse<R>,
-    G: Parse<R>,
-> Parse<R> for (A, B, C, D, E, F, G) {
-    ghost use Rattle.sv_grammar.specs.Grammar.{seq};
-    ghost use Rattle.sv_ast.specs.Trees.{◌⊗◌};
-
-    ghost part = { seq A.part (seq B.part (seq C.part (seq D.part (seq E.part (seq F.part G.part))))) };
-
-    ghost tree = { λ p. A.tree p.0 ⊗ B.tree p.1 ⊗ C.tree p.2 ⊗ D.tree p.3 ⊗ E.tree p.4 ⊗ F.tree p.5 ⊗ G.tree p.6 };
-
-    fn parse(reader: &R, cursor: &mut Cursor<'_>) -> Result<(A, B, C, D, E, F, G), ParseError> {
-        let (a, (b, (c, (d, (e, (f, g)))))) = Parse::parse(reader, cursor)?;
-        Ok((a, b, c, d, e, f, g))
-    }
-}
-
 /// Told by the one, where that has a token.
 impl<R: Nested, A: Begins<R>, B: Parse<R>> Begins<R> for (A, B) {
     ghost use Rattle.sv_read.specs.FilledParts.{first_filled};
@@ -167,59 +131,6 @@ impl<R: Nested, A: Begins<R>, B: Parse<R>> Begins<R> for (A, B) {
     }
 
     ghost filled = { first_filled A.part B.part A.filled };
-}
-
-impl<
-    R: Nested,
-    A: Parse<R>,
-    B: Parse<R>,
-    C: Parse<R>,
-    D: Parse<R>,
-    E: Parse<R>,
-    F: Parse<R>,
-    G: Parse<R>,
-    H: Parse<R>,
-> Parse<R> for (A, B, C, D, E, F, G, H) {
-    ghost use Rattle.sv_grammar.specs.Grammar.{seq};
-    ghost use Rattle.sv_ast.specs.Trees.{◌⊗◌};
-
-    ghost part = { seq A.part (seq B.part (seq C.part (seq D.part (seq E.part (seq F.part (seq G.part H.part)))))) };
-
-    ghost tree = { λ p. A.tree p.0 ⊗ B.tree p.1 ⊗ C.tree p.2 ⊗ D.tree p.3 ⊗ E.tree p.4 ⊗ F.tree p.5 ⊗ G.tree p.6 ⊗ H.tree p.7 };
-
-    fn parse(reader: &R, cursor: &mut Cursor<'_>) -> Result<(A, B, C, D, E, F, G, H), ParseError> {
-        let (a, (b, (c, (d, (e, (f, (g, h))))))) = Parse::parse(reader, cursor)?;
-        Ok((a, b, c, d, e, f, g, h))
-    }
-}
-
-impl<
-    R: Nested,
-    A: Parse<R>,
-    B: Parse<R>,
-    C: Parse<R>,
-    D: Parse<R>,
-    E: Parse<R>,
-    F: Parse<R>,
-    G: Parse<R>,
-    H: Parse<R>,
-    I: Parse<R>,
-    J: Parse<R>,
-> Parse<R> for (A, B, C, D, E, F, G, H, I, J) {
-    ghost use Rattle.sv_grammar.specs.Grammar.{seq};
-    ghost use Rattle.sv_ast.specs.Trees.{◌⊗◌};
-
-    ghost part = { seq A.part (seq B.part (seq C.part (seq D.part (seq E.part (seq F.part (seq G.part (seq H.part (seq I.part J.part)))))))) };
-
-    ghost tree = { λ p. A.tree p.0 ⊗ B.tree p.1 ⊗ C.tree p.2 ⊗ D.tree p.3 ⊗ E.tree p.4 ⊗ F.tree p.5 ⊗ G.tree p.6 ⊗ H.tree p.7 ⊗ I.tree p.8 ⊗ J.tree p.9 };
-
-    fn parse(
-        reader: &R,
-        cursor: &mut Cursor<'_>,
-    ) -> Result<(A, B, C, D, E, F, G, H, I, J), ParseError> {
-        let (a, (b, (c, (d, (e, (f, (g, (h, (i, j))))))))) = Parse::parse(reader, cursor)?;
-        Ok((a, b, c, d, e, f, g, h, i, j))
-    }
 }
 
 impl<R: Nested, A: Begins<R>, B: Parse<R>, C: Parse<R>> Begins<R> for (A, B, C) {
@@ -273,4 +184,18 @@ pub fn with<X: Drop, Y>(held: X, read: Result<Y, ParseError>) -> Result<(X, Y), 
         Ok(y) => Ok((held, y)),
         Err(e) => Err(e),
     }
+}
+
+/// What the rule of a side reads, and where it lies.
+pub fn placed<R: Nested, A: Parse<R>>(
+    reader: &R,
+    cursor: &mut Cursor<'_>,
+) -> Result<(A, Span, Place), ParseError>
+    requires { MayRead (R.nests reader.now) (R.floor reader.now) (leads R.inner A.part) cursor.old.at }
+    ensures { (s : Side) → rules s ≡ A.part → Reads (λ p. node (extent p.1 p.2) (A.tree p.0)) (side s) cursor.old result cursor.new }
+{
+    let from = cursor.at();
+    let read = A::parse(reader, cursor)?;
+    let Extent { span, place } = cursor.extent(from);
+    Ok((read, span, place))
 }

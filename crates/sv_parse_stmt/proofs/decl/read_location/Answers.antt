@@ -1,13 +1,13 @@
 use Rattle.std.proofs.Common.{refl, arith}
 use Rattle.sv_read.proofs.Exits.{left_by}
-use Rattle.sv_read.proofs.Reading.{gives_side, fails_side}
+use Rattle.sv_ast.specs.Syntax as s
 use Rattle.sv_parse_stmt.proofs.decl.read_location.Goals as goal
 
-pub parse-requires : goal.parse-requires
-parse-requires c = record { nests = tt; behind = omega arith }
+pub placed-requires : goal.placed-requires
+placed-requires c = record { nests = tt; behind = omega arith }
 
 pub returns-in_err-kind : goal.returns-in_err-kind
-returns-in_err-kind c = left_by _ _ _ _ _ _ c.from_residual.ensures (fails_side c.in_err-kind.ensures)
+returns-in_err-kind c = left_by _ _ _ _ _ _ c.from_residual.ensures (c.in_err-kind.ensures s.location refl)
 
 pub returns : goal.returns
-returns c = gives_side refl c.at-from.ensures.is c.extent.ensures c.in_ok-kind.ensures
+returns c = c.in_ok-kind.ensures s.location refl

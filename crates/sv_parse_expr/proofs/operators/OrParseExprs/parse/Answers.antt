@@ -1,13 +1,15 @@
+use Rattle.std.proofs.Common.{refl}
 use Rattle.sv_ast.proofs.ExprLaws.{or_is}
 use Rattle.sv_read.proofs.Exits.{left_by}
-use Rattle.sv_read.proofs.Reading.{gives_side, fails_side}
+use Rattle.sv_ast.specs.Syntax as s
+use Rattle.sv_read.proofs.Reading.{gives_as}
 use Rattle.sv_parse_expr.proofs.operators.OrParseExprs.parse.Goals as goal
 
-pub parse-requires : goal.parse-requires
-parse-requires g c = c.requires
+pub placed-requires : goal.placed-requires
+placed-requires γ c = c.requires
 
 pub returns-in_err-first : goal.returns-in_err-first
-returns-in_err-first g c = left_by _ _ _ _ _ _ c.from_residual.ensures (fails_side c.in_err-first.ensures)
+returns-in_err-first γ c = left_by _ _ _ _ _ _ c.from_residual.ensures (c.in_err-first.ensures s.or refl)
 
 pub returns : goal.returns
-returns g c = gives_side (or_is _ _ _ _) c.at-from.ensures.is c.extent.ensures c.in_ok-first.ensures
+returns γ c = gives_as (or_is _ _ _ _) (c.in_ok-first.ensures s.or refl)

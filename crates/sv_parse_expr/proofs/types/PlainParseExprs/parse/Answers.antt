@@ -1,13 +1,15 @@
+use Rattle.std.proofs.Common.{refl}
 use Rattle.sv_ast.proofs.ExprLaws.{plain_is}
 use Rattle.sv_read.proofs.Exits.{left_by}
-use Rattle.sv_read.proofs.Reading.{gives_side, fails_side}
+use Rattle.sv_ast.specs.Syntax as s
+use Rattle.sv_read.proofs.Reading.{gives_as}
 use Rattle.sv_parse_expr.proofs.types.PlainParseExprs.parse.Goals as goal
 
-pub parse-requires : goal.parse-requires
-parse-requires g c = c.requires
+pub placed-requires : goal.placed-requires
+placed-requires γ c = c.requires
 
 pub returns-in_err-kind : goal.returns-in_err-kind
-returns-in_err-kind g c = left_by _ _ _ _ _ _ c.from_residual.ensures (fails_side c.in_err-kind.ensures)
+returns-in_err-kind γ c = left_by _ _ _ _ _ _ c.from_residual.ensures (c.in_err-kind.ensures s.plain refl)
 
 pub returns : goal.returns
-returns g c = gives_side (plain_is _ _ _) c.at-from.ensures.is c.extent.ensures c.in_ok-kind.ensures
+returns γ c = gives_as (plain_is _ _ _) (c.in_ok-kind.ensures s.plain refl)

@@ -1,13 +1,15 @@
+use Rattle.std.proofs.Common.{refl}
 use Rattle.sv_ast.proofs.StmtLaws.{for_is}
 use Rattle.sv_read.proofs.Exits.{left_by}
-use Rattle.sv_read.proofs.Reading.{gives_side, fails_side}
+use Rattle.sv_ast.specs.Syntax as s
+use Rattle.sv_read.proofs.Reading.{gives_as}
 use Rattle.sv_parse_stmt.proofs.loops.ForParseStatements.parse.Goals as goal
 
-pub parse-requires : goal.parse-requires
-parse-requires g c = c.requires
+pub placed-requires : goal.placed-requires
+placed-requires γ c = c.requires
 
 pub returns-in_err-notes : goal.returns-in_err-notes
-returns-in_err-notes g c = left_by _ _ _ _ _ _ c.from_residual.ensures (fails_side c.in_err-notes.ensures)
+returns-in_err-notes γ c = left_by _ _ _ _ _ _ c.from_residual.ensures (c.in_err-notes.ensures s.for refl)
 
 pub returns : goal.returns
-returns g c = gives_side (for_is _ _ _ _ _ _ _ _) c.at-from.ensures.is c.extent.ensures c.in_ok-notes.ensures
+returns γ c = gives_as (for_is _ _ _ _ _ _ _ _) (c.in_ok-notes.ensures s.for refl)

@@ -1,7 +1,7 @@
 use Rattle.std.proofs.Common.{refl}
 use Rattle.sv_read.proofs.Exits.{left_by}
 use Rattle.sv_read.proofs.Reading.{gives_side, fails_side}
-use Rattle.sv_parse_unit.proofs.reader.placed.Goals as goal
+use Rattle.sv_read.proofs.parts.placed.Goals as goal
 
 pub parse-requires : goal.parse-requires
 parse-requires g c = c.requires
