@@ -18,7 +18,7 @@ pub returns-in-Second-Second-First : goal.returns-in-Second-Second-First
 returns-in-Second-Second-First g c = rw (suffix_call_is c.in-Second-Second-First.args) (rw (c.in-Second-Second-First.is, c.in-Second-Second-First.field-0-is, c.in-Second-Second-First.field-0-0-is) at c.in_ok-index.ensures)
 
 pub returns-in-Second-Second-Second-First : goal.returns-in-Second-Second-Second-First
-returns-in-Second-Second-Second-First g c = rw (suffix_value_is c.in-Second-Second-Second-First.value) (rw (c.in-Second-Second-Second-First.is, c.in-Second-Second-Second-First.field-0-is, c.in-Second-Second-Second-First.field-0-0-is, c.in-Second-Second-Second-First.field-0-0-0-is) at c.in_ok-index.ensures)
+returns-in-Second-Second-Second-First g c = rw (suffix_value_is c.in-Second-Second-Second-First.given.1) (rw (c.in-Second-Second-Second-First.is, c.in-Second-Second-Second-First.field-0-is, c.in-Second-Second-Second-First.field-0-0-is, c.in-Second-Second-Second-First.field-0-0-0-is) at c.in_ok-index.ensures)
 
 pub returns-in-Second-Second-Second-Second-First : goal.returns-in-Second-Second-Second-Second-First
 returns-in-Second-Second-Second-Second-First g c = rw (suffix_increment_is) (rw (c.in-Second-Second-Second-Second-First.is, c.in-Second-Second-Second-Second-First.field-0-is, c.in-Second-Second-Second-Second-First.field-0-0-is, c.in-Second-Second-Second-Second-First.field-0-0-0-is, c.in-Second-Second-Second-Second-First.field-0-0-0-0-is) at c.in_ok-index.ensures)
