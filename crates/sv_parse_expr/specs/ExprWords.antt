@@ -1,5 +1,4 @@
 -- Serves the proof: the words that the contracts of the readers of expressions cite, from one place.
-pub use Rattle.std.specs.Prelude.{◌≡◌, refl, ◌^◌, ◌<◌, ◌≤◌, length, [], ◌∷◌, true, map, ℕ, IfOk}
 pub use Rattle.sv_grammar.specs.Grammar.{elem, side, opt, unit}
 pub use Rattle.sv_grammar.specs.Named.{Grows}
 pub use Rattle.sv_lex.specs.Limits.{HasNo, IsDeep}

@@ -1,7 +1,8 @@
 //! Operators and their operands.
 #![tactic(auto, using(sv_read::proofs::Reading::fails_memory))]
 
-ghost use Rattle.sv_parse_expr.specs.ExprWords.{◌≡◌, refl, elem, side, quoted, ◌∣◌, ◌⊙◌, and_tree, arms_tree, expr_tree, less_op_tree, less_rest_tree, less_tree, or_tree, power_tree, prod_op_tree, prod_rest_tree, prod_tree, same_op_tree, same_rest_tree, same_tree, sum_op_tree, sum_rest_tree, sum_tree, term_kind_tree, term_tree, unary_op_tree, unary_operand_tree, unary_tree, firsts, seen, Reads, May};
+ghost use Rattle.std.specs.Prelude.{◌≡◌, refl};
+ghost use Rattle.sv_parse_expr.specs.ExprWords.{elem, side, quoted, ◌∣◌, ◌⊙◌, and_tree, arms_tree, expr_tree, less_op_tree, less_rest_tree, less_tree, or_tree, power_tree, prod_op_tree, prod_rest_tree, prod_tree, same_op_tree, same_rest_tree, same_tree, sum_op_tree, sum_rest_tree, sum_tree, term_kind_tree, term_tree, unary_op_tree, unary_operand_tree, unary_tree, firsts, seen, Reads, May};
 ghost use Rattle.sv_ast.specs.declared.class.Class.TheVariants as k;
 ghost use Rattle.sv_ast.specs.Syntax as g;
 

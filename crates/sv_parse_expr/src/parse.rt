@@ -1,6 +1,7 @@
 //! The parts of a text's tokens as trees.
 
-ghost use Rattle.sv_parse_expr.specs.ExprWords.{◌≡◌, ◌^◌, ◌<◌, ◌≤◌, length, side, Grows, args_tree, expr_tree, type_tree, HasNo, IsDeep, Here, AddsTexts, Answers, place_of_token, AnswersBy, Show, fault_of};
+ghost use Rattle.std.specs.Prelude.{◌≡◌, ◌^◌, ◌<◌, ◌≤◌, length};
+ghost use Rattle.sv_parse_expr.specs.ExprWords.{side, Grows, args_tree, expr_tree, type_tree, HasNo, IsDeep, Here, AddsTexts, Answers, place_of_token, AnswersBy, Show, fault_of};
 ghost use denote.Ref.{MutBor};
 ghost use Rattle.sv_ast.specs.Syntax as g;
 

@@ -1,7 +1,8 @@
 //! Atoms and what is applied to them.
 #![tactic(auto, using(sv_read::proofs::Reading::fails_memory))]
 
-ghost use Rattle.sv_parse_expr.specs.ExprWords.{◌≡◌, [], ◌∷◌, true, refl, map, elem, opt, side, unit, code, ◌⊗◌, last, optional_commas, listed, quoted, ◌⊙◌, args_kind_tree, args_tree, atom_kind_tree, atom_tree, expr_tree, named_arg_tree, post_tree, suffix_kind_tree, suffix_tree, type_tree, unit10_kind_tree, unit10_tree, seen, Reads, either_tree, May, args_part, named};
+ghost use Rattle.std.specs.Prelude.{◌≡◌, [], ◌∷◌, true, refl, map};
+ghost use Rattle.sv_parse_expr.specs.ExprWords.{elem, opt, side, unit, code, ◌⊗◌, last, optional_commas, listed, quoted, ◌⊙◌, args_kind_tree, args_tree, atom_kind_tree, atom_tree, expr_tree, named_arg_tree, post_tree, suffix_kind_tree, suffix_tree, type_tree, unit10_kind_tree, unit10_tree, seen, Reads, either_tree, May, args_part, named};
 ghost use Rattle.sv_ast.specs.declared.class.Class.TheVariants as k;
 ghost use Rattle.sv_ast.specs.Syntax as g;
 

@@ -2,7 +2,8 @@
 //! proved by itself.
 #![tactic(auto, using(sv_read::proofs::Reading::fails_memory))]
 
-ghost use Rattle.sv_parse_expr.specs.ExprWords.{ℕ, true, side, args_tree, expr_tree, power_tree, type_tree, unary_tree, MayRead, Nests, Reads, inner};
+ghost use Rattle.std.specs.Prelude.{ℕ, true};
+ghost use Rattle.sv_parse_expr.specs.ExprWords.{side, args_tree, expr_tree, power_tree, type_tree, unary_tree, MayRead, Nests, Reads, inner};
 ghost use Rattle.sv_ast.specs.Syntax as g;
 
 use crate::operators::{expr_rule, power_rule, unary_rule};

@@ -1,6 +1,7 @@
 //! The symbols of a list of tokens.
 
-ghost use Rattle.sv_parse_expr.specs.ExprWords.{◌^◌, ◌<◌, length, IfOk, Grows, AddsTexts, Show};
+ghost use Rattle.std.specs.Prelude.{◌^◌, ◌<◌, length, IfOk};
+ghost use Rattle.sv_parse_expr.specs.ExprWords.{Grows, AddsTexts, Show};
 
 use sqlite_items::Items;
 use std::alloc::Global;

@@ -1,7 +1,8 @@
 //! Types.
 #![tactic(auto, using(sv_read::proofs::Reading::fails_memory))]
 
-ghost use Rattle.sv_parse_expr.specs.ExprWords.{◌≡◌, refl, elem, side, brackets, firsts, dimension_tree, plain_kind_tree, plain_tree, type_tree, seen, Reads, May};
+ghost use Rattle.std.specs.Prelude.{◌≡◌, refl};
+ghost use Rattle.sv_parse_expr.specs.ExprWords.{elem, side, brackets, firsts, dimension_tree, plain_kind_tree, plain_tree, type_tree, seen, Reads, May};
 ghost use Rattle.sv_ast.specs.Syntax as g;
 
 use crate::reader::{Exprs, NestedExprs};

@@ -1,7 +1,8 @@
 //! Expressions that stand alone, assignments and deletions.
 #![tactic(auto, using(sv_read::proofs::Reading::fails_memory))]
 
-ghost use Rattle.sv_parse_stmt.specs.StmtWords.{◌≡◌, refl, elem, side, ◌⊙◌, firsts, action_tree, action_kind_tree, assignment_tree, assign_op_tree, assign_op_kind_tree};
+ghost use Rattle.std.specs.Prelude.{◌≡◌, refl};
+ghost use Rattle.sv_parse_stmt.specs.StmtWords.{elem, side, ◌⊙◌, firsts, action_tree, action_kind_tree, assignment_tree, assign_op_tree, assign_op_kind_tree};
 ghost use Rattle.sv_ast.specs.Syntax as g;
 
 use crate::reader::{NestedStmts, Statements};

@@ -1,7 +1,8 @@
 //! Statements of every kind, blocks, and the bodies of branches and loops.
 #![tactic(auto, using(sv_read::proofs::Reading::fails_memory))]
 
-ghost use Rattle.sv_parse_stmt.specs.StmtWords.{◌≡◌, [], refl, elem, side, last, firsts, block_tree, body_tree, body_kind_tree, for_tree, stmt_tree, stmt_kind_tree, while_tree, MayRead, leads, Reads, either_tree, inner};
+ghost use Rattle.std.specs.Prelude.{◌≡◌, [], refl};
+ghost use Rattle.sv_parse_stmt.specs.StmtWords.{elem, side, last, firsts, block_tree, body_tree, body_kind_tree, for_tree, stmt_tree, stmt_kind_tree, while_tree, MayRead, leads, Reads, either_tree, inner};
 ghost use Rattle.sv_ast.specs.Syntax as g;
 
 use crate::reader::{NestedStmts, Statements};

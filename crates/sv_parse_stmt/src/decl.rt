@@ -1,7 +1,8 @@
 //! Declarations of variables, and where their values lie.
 #![tactic(auto, using(sv_read::proofs::Reading::fails_memory))]
 
-ghost use Rattle.sv_parse_stmt.specs.StmtWords.{◌≡◌, false, refl, elem, side, decl_tree, location_tree, location_kind_tree, Reads};
+ghost use Rattle.std.specs.Prelude.{◌≡◌, false, refl};
+ghost use Rattle.sv_parse_stmt.specs.StmtWords.{elem, side, decl_tree, location_tree, location_kind_tree, Reads};
 ghost use Rattle.sv_ast.specs.Syntax as g;
 
 use crate::reader::{NestedStmts, Statements};

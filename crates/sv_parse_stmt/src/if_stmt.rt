@@ -1,7 +1,8 @@
 //! Conditions with their branches.
 #![tactic(auto, using(sv_read::proofs::Reading::fails_memory))]
 
-ghost use Rattle.sv_parse_stmt.specs.StmtWords.{◌≡◌, false, refl, opt, side, if_tree, MayRead, Reads, ended_tree};
+ghost use Rattle.std.specs.Prelude.{◌≡◌, false, refl};
+ghost use Rattle.sv_parse_stmt.specs.StmtWords.{opt, side, if_tree, MayRead, Reads, ended_tree};
 ghost use Rattle.sv_ast.specs.Syntax as g;
 
 use crate::reader::{NestedStmts, Statements};

@@ -1,7 +1,8 @@
 //! Loops.
 #![tactic(auto, using(sv_read::proofs::Reading::fails_memory))]
 
-ghost use Rattle.sv_parse_stmt.specs.StmtWords.{◌≡◌, refl, both, elem, side, but_semicolon, for_tree, for_start_tree, keyword_tree, while_tree};
+ghost use Rattle.std.specs.Prelude.{◌≡◌, refl};
+ghost use Rattle.sv_parse_stmt.specs.StmtWords.{both, elem, side, but_semicolon, for_tree, for_start_tree, keyword_tree, while_tree};
 ghost use Rattle.sv_ast.specs.Syntax as g;
 
 use crate::reader::{NestedStmts, Statements};

@@ -1,7 +1,8 @@
 //! A statement of a text's tokens as a tree.
 #![tactic(auto, using(sv_read::proofs::Reading::fails_memory))]
 
-ghost use Rattle.sv_parse_stmt.specs.StmtWords.{◌^◌, ◌<◌, ◌≤◌, length, side, Grows, stmt_tree, HasNo, IsDeep, AddsTexts, Answers};
+ghost use Rattle.std.specs.Prelude.{◌^◌, ◌<◌, ◌≤◌, length};
+ghost use Rattle.sv_parse_stmt.specs.StmtWords.{side, Grows, stmt_tree, HasNo, IsDeep, AddsTexts, Answers};
 ghost use Rattle.sv_ast.specs.Syntax as g;
 
 use crate::reader::read_stmt;

@@ -2,7 +2,8 @@
 //! these is proved by itself.
 #![tactic(auto, using(sv_read::proofs::Reading::fails_memory))]
 
-ghost use Rattle.sv_parse_stmt.specs.StmtWords.{◌≡◌, ℕ, ◌<◌, refl, elem, side, firsts, args_tree, expr_tree, type_tree, note_tree, block_tree, stmt_tree, Nests, Reads, inner};
+ghost use Rattle.std.specs.Prelude.{◌≡◌, ℕ, ◌<◌, refl};
+ghost use Rattle.sv_parse_stmt.specs.StmtWords.{elem, side, firsts, args_tree, expr_tree, type_tree, note_tree, block_tree, stmt_tree, Nests, Reads, inner};
 ghost use Rattle.sv_ast.specs.Syntax as g;
 
 use crate::block::stmt_rule;

@@ -1,7 +1,8 @@
 //! `return`, with its values.
 #![tactic(auto, using(sv_read::proofs::Reading::fails_memory))]
 
-ghost use Rattle.sv_parse_stmt.specs.StmtWords.{◌≡◌, refl, both, elem, side, but_semicolon, listed, quoted, ◌⊙◌, return_tree, returned_tree};
+ghost use Rattle.std.specs.Prelude.{◌≡◌, refl};
+ghost use Rattle.sv_parse_stmt.specs.StmtWords.{both, elem, side, but_semicolon, listed, quoted, ◌⊙◌, return_tree, returned_tree};
 ghost use Rattle.sv_ast.specs.declared.class.Class.TheVariants as k;
 ghost use Rattle.sv_ast.specs.Syntax as g;
 

@@ -1,7 +1,8 @@
 //! Statements that end with `;`, without it.
 #![tactic(auto, using(sv_read::proofs::Reading::fails_memory))]
 
-ghost use Rattle.sv_parse_stmt.specs.StmtWords.{◌≡◌, refl, elem, side, last, but_semicolon, simple_tree, simple_kind_tree, told_tree};
+ghost use Rattle.std.specs.Prelude.{◌≡◌, refl};
+ghost use Rattle.sv_parse_stmt.specs.StmtWords.{elem, side, last, but_semicolon, simple_tree, simple_kind_tree, told_tree};
 ghost use Rattle.sv_ast.specs.Syntax as g;
 
 use crate::reader::{NestedStmts, Statements};

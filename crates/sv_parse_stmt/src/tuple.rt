@@ -1,7 +1,8 @@
 //! Several targets at once, with the value that fills them.
 #![tactic(auto, using(sv_read::proofs::Reading::fails_memory))]
 
-ghost use Rattle.sv_parse_stmt.specs.StmtWords.{◌≡◌, refl, both, elem, opt, side, id, ◌⊙◌, slot_tree, slot_kind_tree, tuple_tree, but_name};
+ghost use Rattle.std.specs.Prelude.{◌≡◌, refl};
+ghost use Rattle.sv_parse_stmt.specs.StmtWords.{both, elem, opt, side, id, ◌⊙◌, slot_tree, slot_kind_tree, tuple_tree, but_name};
 ghost use Rattle.sv_ast.specs.Syntax as g;
 
 use crate::reader::{NestedStmts, Statements};

@@ -1,7 +1,8 @@
 //! Two or more, with commas between, and what stands behind them.
 #![tactic(auto, using(sv_read::proofs::Reading::fails_memory))]
 
-ghost use Rattle.sv_parse_stmt.specs.StmtWords.{◌≡◌, ◌∷◌, IfOk, map, seq, listed, quoted, two_or_more};
+ghost use Rattle.std.specs.Prelude.{◌≡◌, ◌∷◌, IfOk, map};
+ghost use Rattle.sv_parse_stmt.specs.StmtWords.{seq, listed, quoted, two_or_more};
 ghost use Rattle.sv_ast.specs.declared.class.Class.TheVariants as k;
 
 use crate::reader::{NestedStmts, Statements};

@@ -1,5 +1,4 @@
 -- Serves the proof: the words that the contracts of the readers of whole texts cite, from one place.
-pub use Rattle.std.specs.Prelude.{◌≡◌, [], map, refl, ◌∷◌, ◌^◌, ◌<◌, ◌≤◌, length, IfOk, IfErr, false}
 pub use Rattle.sv_grammar.specs.Grammar.{elem, name, opt, side, star, unit, text, node, both}
 pub use Rattle.sv_grammar.specs.ListTrees.{list_tree}
 pub use Rattle.sv_grammar.specs.Named.{Grows}

@@ -1,6 +1,7 @@
 //! Contracts and interfaces, their bases, and what stands in them.
 
-ghost use Rattle.sv_parse_unit.specs.UnitWords.{◌≡◌, [], map, refl, elem, name, opt, side, star, unit, list_tree, ◌⊗◌, last, optional_word, id, listed, quoted, ◌⊙◌, ◌∣◌, note_tree, base_list_tree, base_tree, bases_tree, contract_kind_tree, contract_tree, ctor_tree, function_tree, part_kind_tree, part_tree, var_word_kind_tree, var_word_tree, variable_tree, variable_word_tree, either_tree};
+ghost use Rattle.std.specs.Prelude.{◌≡◌, [], map, refl};
+ghost use Rattle.sv_parse_unit.specs.UnitWords.{elem, name, opt, side, star, unit, list_tree, ◌⊗◌, last, optional_word, id, listed, quoted, ◌⊙◌, ◌∣◌, note_tree, base_list_tree, base_tree, bases_tree, contract_kind_tree, contract_tree, ctor_tree, function_tree, part_kind_tree, part_tree, var_word_kind_tree, var_word_tree, variable_tree, variable_word_tree, either_tree};
 ghost use Rattle.sv_ast.specs.declared.class.Class.TheVariants as k;
 ghost use Rattle.sv_ast.specs.Syntax as g;
 

@@ -1,6 +1,7 @@
 //! Structs, enums, events and errors.
 
-ghost use Rattle.sv_parse_unit.specs.UnitWords.{◌≡◌, refl, elem, side, enum_tree, er_par_tree, error_tree, ev_par_tree, event_tree, field_tree, struct_tree};
+ghost use Rattle.std.specs.Prelude.{◌≡◌, refl};
+ghost use Rattle.sv_parse_unit.specs.UnitWords.{elem, side, enum_tree, er_par_tree, error_tree, ev_par_tree, event_tree, field_tree, struct_tree};
 ghost use Rattle.sv_ast.specs.Syntax as g;
 
 use crate::reader::{Several, Units};

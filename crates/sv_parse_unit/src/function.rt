@@ -1,6 +1,7 @@
 //! Functions, with a name and without, and modifiers.
 
-ghost use Rattle.sv_parse_unit.specs.UnitWords.{◌≡◌, ◌∷◌, [], map, refl, elem, name, opt, side, text, id, listed, quoted, ◌⊙◌, ◌∣◌, ctor_tree, function_body_tree, function_tree, head_kind_tree, head_tree, modifier_tree, modifier_word_tree, over_names_tree, over_tree, param_tree, params_tree, special_tree, code, last};
+ghost use Rattle.std.specs.Prelude.{◌≡◌, ◌∷◌, [], map, refl};
+ghost use Rattle.sv_parse_unit.specs.UnitWords.{elem, name, opt, side, text, id, listed, quoted, ◌⊙◌, ◌∣◌, ctor_tree, function_body_tree, function_tree, head_kind_tree, head_tree, modifier_tree, modifier_word_tree, over_names_tree, over_tree, param_tree, params_tree, special_tree, code, last};
 ghost use Rattle.sv_ast.specs.declared.class.Class.TheVariants as k;
 ghost use Rattle.sv_ast.specs.Syntax as g;
 

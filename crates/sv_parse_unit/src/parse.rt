@@ -1,6 +1,7 @@
 //! The tokens of a text as a tree.
 
-ghost use Rattle.sv_parse_unit.specs.UnitWords.{◌≡◌, ◌^◌, ◌<◌, ◌≤◌, length, IfOk, IfErr, side, Grows, unit_tree, HasNo, IsDeep, Reads, AddsTexts, place_of_token, Syntax, AnswersUnit};
+ghost use Rattle.std.specs.Prelude.{◌≡◌, ◌^◌, ◌<◌, ◌≤◌, length, IfOk, IfErr};
+ghost use Rattle.sv_parse_unit.specs.UnitWords.{side, Grows, unit_tree, HasNo, IsDeep, Reads, AddsTexts, place_of_token, Syntax, AnswersUnit};
 ghost use Rattle.sv_ast.specs.Syntax as g;
 
 use crate::reader::Units;

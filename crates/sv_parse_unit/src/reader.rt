@@ -1,6 +1,7 @@
 //! The reader of whole texts: sides with where they lie, lists of one or more, and what the crates below read.
 
-ghost use Rattle.sv_parse_unit.specs.UnitWords.{◌≡◌, ◌∷◌, IfOk, false, map, refl, elem, node, side, Side, extent, several, args_tree, expr_tree, type_tree, location_tree, note_tree, block_tree, MayRead, leads, Reads};
+ghost use Rattle.std.specs.Prelude.{◌≡◌, ◌∷◌, IfOk, false, map, refl};
+ghost use Rattle.sv_parse_unit.specs.UnitWords.{elem, node, side, Side, extent, several, args_tree, expr_tree, type_tree, location_tree, note_tree, block_tree, MayRead, leads, Reads};
 ghost use Rattle.sv_ast.specs.Syntax as g;
 
 use sqlite_items::Items;

@@ -1,6 +1,7 @@
 //! What stands in a text.
 
-ghost use Rattle.sv_parse_unit.specs.UnitWords.{◌≡◌, [], refl, both, elem, side, last, kept, quoted, ◌⊙◌, ◌∣◌, error_tree, file_const_tree, unit_item_tree, unit_tree, either_tree};
+ghost use Rattle.std.specs.Prelude.{◌≡◌, [], refl};
+ghost use Rattle.sv_parse_unit.specs.UnitWords.{both, elem, side, last, kept, quoted, ◌⊙◌, ◌∣◌, error_tree, file_const_tree, unit_item_tree, unit_tree, either_tree};
 ghost use Rattle.sv_ast.specs.declared.class.Class.TheVariants as k;
 ghost use Rattle.sv_ast.specs.Syntax as g;
 
