@@ -1,5 +1,5 @@
 -- Names and items that are read from lists.
-use Rattle.std.proofs.Common.{◌≡◌, ◌∙◌, ◌++◌, ℕ, List, Option, Some, [], ◌∷◌, ◌+◌, refl, sym, ap, append_assoc, map, slice_get, take, get_or, length, ◌<◌, ◌≤◌}
+use Rattle.std.proofs.Common.{◌≡◌, ◌∙◌, ◌++◌, ℕ, List, Some, [], ◌∷◌, ◌+◌, refl, sym, ap, append_assoc, map, slice_get, take, get_or, length, ◌<◌, ◌≤◌}
 use Rattle.std.specs.Prelude.{option_map}
 use Rattle.std.proofs.lemmas.Option.{slice_get-map, slice_get_within, get_or_from_slice_get}
 use Rattle.std.proofs.lemmas.List.{take_more, take_all}

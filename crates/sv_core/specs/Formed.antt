@@ -1,8 +1,7 @@
 -- Believed: when a contract is formed, which is the condition of all that is said of it. Hold it against `docs/language.md`. Behind each clause stands what would go wrong without it.
-use Rattle.std.specs.Prelude.{◌≡◌, ◌≢◌, ◌↔◌, ◌≤◌, ◌<◌, ◌+◌, ◌-◌, ◌^◌, ◌⊎◌, ◌++◌, ◌==◌, IsTrue, ℕ, Bool, true, false, List, [], ◌∷◌, Option, Some, None, Contains, AllPairs, count_by, length, map, take, slice_get}
+use Rattle.std.specs.Prelude.{◌≡◌, ◌≢◌, ◌↔◌, ◌≤◌, ◌<◌, ◌+◌, ◌-◌, ◌^◌, ◌++◌, ◌==◌, IsTrue, ℕ, Bool, true, false, List, [], ◌∷◌, Option, Some, None, Contains, AllPairs, count_by, length, map, take, slice_get}
 use Rattle.std.specs.List.{range_with_len}
-use Rattle.sv_type.specs.declared.info.TypeInfo.{TypeInfo}
-use Rattle.sv_type.specs.TypeParts.{is_value, IsValueType}
+use Rattle.sv_type.specs.TypeParts.{IsValueType}
 use Rattle.sv_core.specs.declared.contract.LocalInfo.{LocalInfo}
 use Rattle.sv_core.specs.declared.contract.VarKind.TheVariants.{Immutable}
 use Rattle.sv_core.specs.declared.expr.Loc.{Loc}
@@ -11,9 +10,9 @@ use Rattle.sv_core.specs.declared.expr.OutKind.{OutKind}
 use Rattle.sv_core.specs.PlainCode as code
 use Rattle.sv_core.specs.PlainCode.{Expr, Kind, Exprs, Maybe, Stmt, Act, Stmts, Arms, exprs}
 use Rattle.sv_core.specs.PlainCore.{Contract, Variable, Function, Constructor, Modifier, Use, Given}
-use Rattle.sv_core.specs.FormedTypes.{IsType, TypesFormed}
-use Rattle.sv_core.specs.FormedExprs.{Text, Code, Invariant, Condition, Postcondition, Scope, type_of, results_of, effects_of, HasOneEffect, IsReference, IsCopied, NumberFormed, ExprFormed, ArgsFormed}
-use Rattle.sv_core.specs.FormedStats.{Frame, NotesFormed, BodyFormed}
+use Rattle.sv_core.specs.FormedTypes.{TypesFormed}
+use Rattle.sv_core.specs.FormedExprs.{Code, Invariant, Condition, Postcondition, Scope, results_of, effects_of, HasOneEffect, IsReference, IsCopied, ExprFormed, ArgsFormed}
+use Rattle.sv_core.specs.FormedStats.{NotesFormed, BodyFormed}
 
 abbrev pub Few : {X : Type 0} → List X → Type 0
 Few xs = length xs < 2 ^ 32

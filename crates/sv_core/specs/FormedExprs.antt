@@ -1,17 +1,16 @@
 -- Believed: when an expression is formed: in range, of the type and at the place that its parts ask for, with its effects where they are in order. Hold it against Solidity's documentation, "Types" and "Expressions and Control Structures", and `docs/language.md`.
-use Rattle.std.specs.Prelude.{◌≡◌, ◌≤◌, ◌<◌, ◌+◌, ◌-◌, ◌*◌, ◌^◌, ◌⊎◌, ◌++◌, if◌then◌else◌, ℕ, Bool, true, false, List, [], ◌∷◌, Option, Some, None, length, take, drop, slice_get}
+use Rattle.std.specs.Prelude.{◌≡◌, ◌≤◌, ◌<◌, ◌-◌, ◌^◌, ◌⊎◌, ◌++◌, if◌then◌else◌, ℕ, Bool, true, false, List, [], ◌∷◌, Option, Some, None, length, take, drop, slice_get}
 use Rattle.sv_type.specs.declared.info.TypeInfo.{TypeInfo}
-use Rattle.sv_type.specs.declared.info.TypeInfo.TheVariants.{Uint, Int, Bool as BoolType, Address, Contract as ContractType, Enum, Struct, Fixed, Dynamic, Mapping}
+use Rattle.sv_type.specs.declared.info.TypeInfo.TheVariants.{Uint, Int, Bool as BoolType, Address, Contract as ContractType, Enum, Struct, Dynamic, Mapping}
 use Rattle.sv_type.specs.TypeParts.{is_value, IsFlat, IsValueType, IsArrayOf}
 use Rattle.sv_core.specs.declared.contract.LocalInfo.{LocalInfo}
-use Rattle.sv_core.specs.declared.contract.VarKind.{VarKind}
 use Rattle.sv_core.specs.declared.contract.VarKind.TheVariants.{State as StateVariable, Immutable}
 use Rattle.sv_core.specs.declared.expr.Op.{Op}
 use Rattle.sv_core.specs.declared.expr.Op.TheVariants.{Add, Sub, Mul, Div, Mod, Eq, Ne, Lt, Gt, Le, Ge, And, Or, Not, Neg}
 use Rattle.sv_core.specs.declared.expr.Loc.{Loc}
 use Rattle.sv_core.specs.declared.expr.Loc.TheVariants.{Value, Memory, Storage}
 use Rattle.sv_core.specs.declared.expr.EnvName.{EnvName}
-use Rattle.sv_core.specs.declared.expr.EnvName.TheVariants.{Sender, Value as SentValue, Time, Number, This, Balance}
+use Rattle.sv_core.specs.declared.expr.EnvName.TheVariants.{Sender, Value as SentValue, This, Balance}
 use Rattle.sv_core.specs.declared.expr.OutKind.{OutKind}
 use Rattle.sv_core.specs.declared.expr.OutKind.TheVariants.{Transfer, Send, Call as CallKind, Typed}
 use Rattle.sv_core.specs.PlainCode as code

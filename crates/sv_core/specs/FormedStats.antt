@@ -1,11 +1,9 @@
 -- Believed: when a statement and a body are formed. Hold it against Solidity's documentation, "Expressions and Control Structures", and `docs/language.md`.
-use Rattle.std.specs.Prelude.{◌≡◌, ◌≤◌, ◌<◌, ◌+◌, ◌^◌, ◌⊎◌, ◌++◌, ℕ, Bool, true, false, List, [], ◌∷◌, Option, Some, None, length, take, slice_get}
-use Rattle.std.specs.List.{range_with_len}
-use Rattle.sv_type.specs.declared.info.TypeInfo.{TypeInfo}
+use Rattle.std.specs.Prelude.{◌≡◌, ◌<◌, ◌^◌, ◌⊎◌, ◌++◌, ℕ, Bool, true, false, List, [], ◌∷◌, Option, Some, None, length, slice_get}
 use Rattle.sv_type.specs.declared.info.TypeInfo.TheVariants.{Bool as BoolType, Mapping}
 use Rattle.sv_type.specs.TypeParts.{IsFlat}
 use Rattle.sv_core.specs.declared.contract.LocalInfo.{LocalInfo}
-use Rattle.sv_core.specs.declared.contract.VarKind.TheVariants.{State as StateVariable, Immutable}
+use Rattle.sv_core.specs.declared.contract.VarKind.TheVariants.{State as StateVariable}
 use Rattle.sv_core.specs.declared.expr.Op.{Op}
 use Rattle.sv_core.specs.declared.expr.Op.TheVariants.{Add, Sub, Mul, Div, Mod}
 use Rattle.sv_core.specs.declared.expr.Loc.{Loc}
@@ -13,9 +11,9 @@ use Rattle.sv_core.specs.declared.expr.Loc.TheVariants.{Value, Memory, Storage}
 use Rattle.sv_core.specs.declared.expr.OutKind.TheVariants.{Call as CallKind, Typed}
 use Rattle.sv_core.specs.PlainCode as code
 use Rattle.sv_core.specs.PlainCode.{Expr, Exprs, Maybe, Stmt, Act, Stmts, Arms}
-use Rattle.sv_core.specs.PlainCore.{Contract, Variable, Function}
+use Rattle.sv_core.specs.PlainCore.{Variable, Function}
 use Rattle.sv_core.specs.FormedTypes.{IsType}
-use Rattle.sv_core.specs.FormedExprs.{Text, Code, Invariant, Condition, Postcondition, Scope, type_of, place_of, held, results_of, types_of, effects, HasOneEffect, reached_through, IsInteger, IsReference, IsCopied, GivesOne, Goes, Stored, ExprFormed, IsCopyToStorage}
+use Rattle.sv_core.specs.FormedExprs.{Code, Condition, Scope, type_of, place_of, held, results_of, HasOneEffect, reached_through, IsInteger, IsCopied, GivesOne, Goes, Stored, ExprFormed}
 
 -- ---- targets
 
