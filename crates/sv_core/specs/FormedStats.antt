@@ -10,7 +10,7 @@ use Rattle.sv_core.specs.declared.expr.Loc.{Loc}
 use Rattle.sv_core.specs.declared.expr.Loc.TheVariants.{Value, Memory, Storage}
 use Rattle.sv_core.specs.declared.expr.OutKind.TheVariants.{Call as CallKind, Typed}
 use Rattle.sv_core.specs.PlainCode as code
-use Rattle.sv_core.specs.PlainCode.{Expr, Exprs, Maybe, Stmt, Act, Stmts, Arms}
+use Rattle.sv_core.specs.PlainCode.{Expr, Stmt, Act, Stmts, Arms}
 use Rattle.sv_core.specs.PlainCore.{Variable, Function}
 use Rattle.sv_core.specs.FormedTypes.{IsType}
 use Rattle.sv_core.specs.FormedExprs.{Code, Condition, Scope, type_of, place_of, held, results_of, HasOneEffect, reached_through, IsInteger, IsCopied, GivesOne, Goes, Stored, ExprFormed}
