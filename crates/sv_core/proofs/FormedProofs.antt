@@ -1,5 +1,5 @@
 -- Why a contract is formed.
-use Rattle.std.proofs.Common.{ℕ, zero, suc, ◌≡◌, ◌≢◌, ◌+◌, ◌^◌, ◌<◌, ◌≤◌, ◌⊎◌, inl, inr, Bool, true, false, true≢false, List, [], ◌∷◌, Option, Some, None, refl, sym, subst, ap, arith, length, All, AllPairs, Contains, slice_get, ◌∙◌}
+use Rattle.std.proofs.Common.{ℕ, zero, suc, ◌≡◌, ◌≢◌, ◌+◌, ◌^◌, ◌<◌, ◌≤◌, ◌⊎◌, inl, Bool, true, false, true≢false, List, [], ◌∷◌, Some, None, refl, sym, subst, ap, arith, length, All, AllPairs, slice_get, ◌∙◌}
 use Rattle.sv_type.specs.declared.info.TypeInfo.{TypeInfo}
 use Rattle.sv_type.specs.declared.info.TypeInfo.TheVariants as info
 use Rattle.sv_type.specs.TypeParts.{parts_of, IsValueType}
@@ -11,7 +11,7 @@ use Rattle.sv_core.specs.PlainCode.{Kind}
 use Rattle.sv_core.specs.PlainCore.{Contract, Function}
 use Rattle.sv_core.specs.FormedTypes.{IsType, InfoFormed, TypesFormed, is_declared}
 use Rattle.sv_core.specs.FormedExprs.{Text, Code, Invariant, Condition, Postcondition, Scope, ExprFormed}
-use Rattle.sv_core.specs.Formed.{Formed, VariableFormed, FunctionFormed, ModifierFormed, ConstructorFormed, UseFormed, Calls, Reaches, ctor_kinds, body_kinds, times_in_all}
+use Rattle.sv_core.specs.Formed.{VariableFormed, FunctionFormed, ModifierFormed, ConstructorFormed, UseFormed, Calls, Reaches, ctor_kinds, body_kinds, times_in_all}
 use Rattle.sv_core.specs.FormedExamples.{node, stored, given, at_most_ten, parameter, the_variable, the_use, setter, set, small, unwritten, two_types, SetterIsFormed}
 
 -- ---- what holds at each place of a list

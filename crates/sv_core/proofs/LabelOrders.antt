@@ -1,12 +1,11 @@
 -- The order by which labels are sorted is that of the definition, and tells labels apart.
 use Rattle.std.proofs.Common.{◌≡◌, ◌∙◌, ℕ, true, List, refl, sym, ap, subst, arith}
 use Rattle.std.specs.List.Sorted.{IsStrictlySortedBy}
-use Rattle.std.specs.Ordering.{nat_cmp, ordering_then, is_eq}
+use Rattle.std.specs.Ordering.{nat_cmp, ordering_then}
 use Rattle.std.specs.Cmp.{Equal-is}
 use Rattle.std.proofs.lemmas.Bool.Decides.{nat_tests}
 use Rattle.std.specs.declared.cmp.Ordering.{Ordering}
 use Rattle.std.specs.declared.cmp.Ordering.TheVariants.{Less, Equal, Greater}
-use Rattle.sv_text.specs.declared.place.Place.{Place}
 use Rattle.sv_core.specs.declared.label.Label.{Label}
 use Rattle.sv_core.specs.declared.label.Site.{Site}
 use Rattle.sv_core.specs.declared.label.Site.TheVariants.{At, End}
@@ -14,7 +13,7 @@ use Rattle.sv_core.specs.contracts.label.LabelOrd.TheImpl.{ghosts as label_ord, 
 use Rattle.sv_core.specs.contracts.label.SiteOrd.TheImpl.{ghosts as site_ord, cmp-value as site_cmp}
 use Rattle.sv_core.specs.contracts.label.LabelPartialEq.TheImpl.{ghosts as label_test}
 use Rattle.sv_core.specs.contracts.label.LabelOrd.TheImpl.Laws.{matches_eq-law}
-use Rattle.sv_core.specs.LabelTexts.{place_order, site_order}
+use Rattle.sv_core.specs.LabelTexts.{site_order}
 use Rattle.sv_core.specs.Checks.{full_order}
 
 site_same : (a b : Site) → site_ord.cmp a b ≡ site_order a b

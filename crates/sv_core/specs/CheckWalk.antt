@@ -1,5 +1,5 @@
 -- Serves the proof: the labels that were found so far, followed by those of a part of the text.
-use Rattle.std.specs.Prelude.{ℕ, List, [], ◌∷◌, ◌++◌, Option, Some, None, length, slice_get}
+use Rattle.std.specs.Prelude.{List, [], ◌∷◌, ◌++◌, Option, Some, None, length, slice_get}
 use Rattle.sv_text.specs.declared.place.Place.{Place}
 use Rattle.sv_core.specs.declared.label.Label.{Label}
 use Rattle.sv_core.specs.declared.label.FuncId.{FuncId}

@@ -1,5 +1,5 @@
 -- Believed: which checks the text of a function holds, and the list of its labels. Hold it against the tables of `docs/labels.md`.
-use Rattle.std.specs.Prelude.{◌≡◌, ◌+◌, ◌↔◌, ◌++◌, if◌then◌else◌, ℕ, Bool, List, [], ◌∷◌, Option, Some, None, Contains, length, map, slice_get, zero, suc}
+use Rattle.std.specs.Prelude.{◌+◌, ◌++◌, if◌then◌else◌, ℕ, List, [], ◌∷◌, Option, Some, None, Contains, length, map, slice_get, zero, suc}
 use Rattle.std.specs.List.Sorted.{IsStrictlySortedBy}
 use Rattle.std.specs.Ordering.{nat_cmp, ordering_then}
 use Rattle.std.specs.declared.cmp.Ordering.{Ordering}

@@ -1,8 +1,7 @@
 -- Believed: when a contract is formed, which is the condition of all that is said of it. Hold it against `docs/language.md`. Behind each clause stands what would go wrong without it.
-use Rattle.std.specs.Prelude.{◌≡◌, ◌≢◌, ◌↔◌, ◌≤◌, ◌<◌, ◌+◌, ◌-◌, ◌^◌, ◌⊎◌, ◌++◌, ◌==◌, IsTrue, ℕ, Bool, true, false, List, [], ◌∷◌, Option, Some, None, Contains, AllPairs, count_by, length, map, take, slice_get}
+use Rattle.std.specs.Prelude.{◌≡◌, ◌≢◌, ◌↔◌, ◌≤◌, ◌<◌, ◌+◌, ◌-◌, ◌^◌, ◌++◌, ◌==◌, IsTrue, ℕ, Bool, true, false, List, [], ◌∷◌, Option, Some, None, Contains, AllPairs, count_by, length, map, take, slice_get}
 use Rattle.std.specs.List.{range_with_len}
-use Rattle.sv_type.specs.declared.info.TypeInfo.{TypeInfo}
-use Rattle.sv_type.specs.TypeParts.{is_value, IsValueType}
+use Rattle.sv_type.specs.TypeParts.{IsValueType}
 use Rattle.sv_core.specs.declared.contract.LocalInfo.{LocalInfo}
 use Rattle.sv_core.specs.declared.contract.VarKind.TheVariants.{Immutable}
 use Rattle.sv_core.specs.declared.expr.Loc.{Loc}
@@ -11,9 +10,9 @@ use Rattle.sv_core.specs.declared.expr.OutKind.{OutKind}
 use Rattle.sv_core.specs.PlainCode as code
 use Rattle.sv_core.specs.PlainCode.{Expr, Kind, Exprs, Maybe, Stmt, Act, Stmts, Arms, exprs}
 use Rattle.sv_core.specs.PlainCore.{Contract, Variable, Function, Constructor, Modifier, Use, Given}
-use Rattle.sv_core.specs.FormedTypes.{IsType, TypesFormed}
-use Rattle.sv_core.specs.FormedExprs.{Text, Code, Invariant, Condition, Postcondition, Scope, type_of, results_of, effects_of, HasOneEffect, IsReference, IsCopied, NumberFormed, ExprFormed, ArgsFormed}
-use Rattle.sv_core.specs.FormedStats.{Frame, NotesFormed, BodyFormed}
+use Rattle.sv_core.specs.FormedTypes.{TypesFormed}
+use Rattle.sv_core.specs.FormedExprs.{Code, Invariant, Condition, Postcondition, Scope, results_of, effects_of, HasOneEffect, IsReference, IsCopied, ExprFormed, ArgsFormed}
+use Rattle.sv_core.specs.FormedStats.{NotesFormed, BodyFormed}
 
 abbrev pub Few : {X : Type 0} → List X → Type 0
 Few xs = length xs < 2 ^ 32
@@ -207,20 +206,20 @@ pub record FunctionFormed (c : Contract) (k : ℕ) (f : Function) : Type 0 where
   pub outside : f.public ≡ true → NoPaths (take (f.params + f.results) f.locals)  -- else a caller from outside would give a path
   pub paths : PathsReturned f (results_of f)  -- else a call could give a path that was never set
   pub top : IsTrue f.top ↔ ((j : ℕ) (g : Function) → slice_get c.funcs j ≡ Some g → g.name ≡ f.name → g.owner ≤ f.owner)  -- else a line is named for another definition, and a visit would run one that is overridden
-  pub uses : UsesFormed c k f f.uses
+  pub uses : UsesFormed c k f f.uses  -- else a modifier would begin without the values of its parameters
   pub pre : NotesFormed (record { core = c; locals = take f.params f.locals; text = Condition }) f.pre  -- else a precondition would see what isn't there yet
-  pub post : NotesFormed (record { core = c; locals = take (f.params + f.results) f.locals; text = Postcondition }) f.post
-  pub body : BodyFormed (record { core = c; locals = f.locals; text = Code false }) (record { returns = results_of f; is_modifier = false }) false f.body
+  pub post : NotesFormed (record { core = c; locals = take (f.params + f.results) f.locals; text = Postcondition }) f.post  -- else a postcondition would see a local of the body, which is gone
+  pub body : BodyFormed (record { core = c; locals = f.locals; text = Code false }) (record { returns = results_of f; is_modifier = false }) false f.body  -- else a statement would have no meaning, or more than one
   pub numbered : IsNumbered f.body  -- else a number names no statement of the body, or two
 
 pub record ModifierFormed (c : Contract) (m : Modifier) : Type 0 where
-  pub owner : m.owner < length c.owners
-  pub few : Few m.locals
-  pub locals : LocalsFormed c m.locals
-  pub signature : m.params ≤ length m.locals
-  pub body : BodyFormed (record { core = c; locals = m.locals; text = Code false }) (record { returns = []; is_modifier = true }) false m.body
+  pub owner : m.owner < length c.owners  -- else nobody defines it
+  pub few : Few m.locals  -- else a number names no local
+  pub locals : LocalsFormed c m.locals  -- else a local's value is of no kind
+  pub signature : m.params ≤ length m.locals  -- else a parameter is no local
+  pub body : BodyFormed (record { core = c; locals = m.locals; text = Code false }) (record { returns = []; is_modifier = true }) false m.body  -- else a statement would have no meaning, or more than one
   pub once : count_by is_rest (body_all m.body) ≡ 1  -- else the body of the function would run twice, or never
-  pub numbered : IsNumbered m.body
+  pub numbered : IsNumbered m.body  -- else a number names no statement of the body, or two
 
 abbrev pub EachHasOneEffect : Scope → List Expr → Type 0
 EachHasOneEffect s [] = Unit {0}
@@ -232,7 +231,7 @@ pub record GivenFormed (c : Contract) (k : Constructor) (g : Given) : Type 0 whe
   pub there : slice_get c.ctors g.base ≡ Some base  -- else nobody takes the arguments
   pub below : g.base < k.owner  -- else arguments would come after they are due
   pub args : ArgsFormed (record { core = c; locals = take k.params k.locals; text = Code true }) (exprs g.args) (take base.params base.locals)  -- else a parameter has no value, or one of another type
-  pub ordered : EachHasOneEffect (record { core = c; locals = take k.params k.locals; text = Code true }) g.args
+  pub ordered : EachHasOneEffect (record { core = c; locals = take k.params k.locals; text = Code true }) g.args  -- else an argument would depend on the order in which its parts are worked out
 
 abbrev pub AllGivenFormed : Contract → Constructor → List Given → Type 0
 AllGivenFormed c k [] = Unit {0}
@@ -240,13 +239,13 @@ AllGivenFormed c k (g ∷ gs) = GivenFormed c k g × AllGivenFormed c k gs
 
 pub record ConstructorFormed (c : Contract) (at : ℕ) (k : Constructor) : Type 0 where
   pub owner : k.owner ≡ at  -- else bodies would run in another order
-  pub few : Few k.locals × Few k.base_args
-  pub locals : LocalsFormed c k.locals
-  pub signature : k.params ≤ length k.locals
+  pub few : Few k.locals × Few k.base_args  -- else a number names no local
+  pub locals : LocalsFormed c k.locals  -- else a local's value is of no kind
+  pub signature : k.params ≤ length k.locals  -- else a parameter is no local
   pub outside : NoPaths (take k.params k.locals)  -- else whoever constructs would give a path
-  pub given : AllGivenFormed c k k.base_args
-  pub body : BodyFormed (record { core = c; locals = k.locals; text = Code true }) (record { returns = []; is_modifier = false }) false k.body
-  pub numbered : IsNumbered k.body
+  pub given : AllGivenFormed c k k.base_args  -- else a base would begin without the values of its parameters
+  pub body : BodyFormed (record { core = c; locals = k.locals; text = Code true }) (record { returns = []; is_modifier = false }) false k.body  -- else a statement would have no meaning, or more than one
+  pub numbered : IsNumbered k.body  -- else a number names no statement of the body, or two
   pub inside : (way : List ℕ) (g : ℕ) (f : Function) → Reaches c (ctor_kinds k) way g → slice_get c.funcs g ≡ Some f → CallsOutside (function_kinds c f) → ⊥  -- else the callee would meet a contract that isn't there yet
 
 -- how often a base is given arguments
@@ -260,19 +259,19 @@ times_in_all base (k ∷ ks) = times_given base k.base_args + times_in_all base 
 
 -- the condition of every statement about a contract
 pub record Formed (c : Contract) : Type 0 where
-  pub types : TypesFormed c.types
+  pub types : TypesFormed c.types  -- else a value has no range, or a type no default
   pub few : Few c.line × (Few c.vars × (Few c.funcs × (Few c.mods × Few c.invariants)))  -- else a number names nothing, and a label no invariant
   pub owners : length c.owners ≡ length c.line  -- else a contract of the line has no name
   pub line : AllPairs (λ a b. a ≢ b) c.line  -- else a body would run twice
   pub itself : (slice_get c.line (length c.line - 1) ≡ Some c.number) × (slice_get c.owners (length c.owners - 1) ≡ Some c.name)  -- else another contract is judged
   pub ctors_in_line : length c.ctors ≡ length c.line  -- else a body would run never
-  pub vars : (k : ℕ) (v : Variable) → slice_get c.vars k ≡ Some v → VariableFormed c v
+  pub vars : (k : ℕ) (v : Variable) → slice_get c.vars k ≡ Some v → VariableFormed c v  -- else storage would begin with no value there
   pub vars_in_order : AllPairs (λ v w. v.owner ≤ w.owner) c.vars  -- else initialisers would be set in another order
-  pub funcs : (k : ℕ) (f : Function) → slice_get c.funcs k ≡ Some f → FunctionFormed c k f
+  pub funcs : (k : ℕ) (f : Function) → slice_get c.funcs k ≡ Some f → FunctionFormed c k f  -- else a visit or a call would have no run
   pub funcs_in_order : AllPairs (λ f g. f.owner ≤ g.owner) c.funcs  -- else the report's lines would stand in another order
   pub one_each : AllPairs (λ f g. (f.name ≡ g.name) → (f.owner ≡ g.owner) → ⊥) c.funcs  -- else two lines would have one name
-  pub mods : (k : ℕ) (m : Modifier) → slice_get c.mods k ≡ Some m → ModifierFormed c m
-  pub ctors : (k : ℕ) (p : Constructor) → slice_get c.ctors k ≡ Some p → ConstructorFormed c k p
+  pub mods : (k : ℕ) (m : Modifier) → slice_get c.mods k ≡ Some m → ModifierFormed c m  -- else a function that uses it would have no run
+  pub ctors : (k : ℕ) (p : Constructor) → slice_get c.ctors k ≡ Some p → ConstructorFormed c k p  -- else construction would have no run
   pub given_once : (k : ℕ) → times_in_all k c.ctors ≤ 1  -- else a parameter would have two values
   pub given : (k : ℕ) (p : Constructor) → slice_get c.ctors k ≡ Some p → 1 ≤ p.params → k + 1 < length c.ctors → times_in_all k c.ctors ≡ 1  -- else a parameter of a base would have none
   pub invariants : NotesFormed (record { core = c; locals = []; text = Invariant }) c.invariants  -- else a state alone wouldn't tell whether it holds

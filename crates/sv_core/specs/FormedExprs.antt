@@ -1,17 +1,16 @@
 -- Believed: when an expression is formed: in range, of the type and at the place that its parts ask for, with its effects where they are in order. Hold it against Solidity's documentation, "Types" and "Expressions and Control Structures", and `docs/language.md`.
-use Rattle.std.specs.Prelude.{◌≡◌, ◌≤◌, ◌<◌, ◌+◌, ◌-◌, ◌*◌, ◌^◌, ◌⊎◌, ◌++◌, if◌then◌else◌, ℕ, Bool, true, false, List, [], ◌∷◌, Option, Some, None, length, take, drop, slice_get}
+use Rattle.std.specs.Prelude.{◌≡◌, ◌≤◌, ◌<◌, ◌-◌, ◌^◌, ◌⊎◌, ◌++◌, if◌then◌else◌, ℕ, Bool, true, false, List, [], ◌∷◌, Option, Some, None, length, take, drop, slice_get}
 use Rattle.sv_type.specs.declared.info.TypeInfo.{TypeInfo}
-use Rattle.sv_type.specs.declared.info.TypeInfo.TheVariants.{Uint, Int, Bool as BoolType, Address, Contract as ContractType, Enum, Struct, Fixed, Dynamic, Mapping}
+use Rattle.sv_type.specs.declared.info.TypeInfo.TheVariants.{Uint, Int, Bool as BoolType, Address, Contract as ContractType, Enum, Struct, Dynamic, Mapping}
 use Rattle.sv_type.specs.TypeParts.{is_value, IsFlat, IsValueType, IsArrayOf}
 use Rattle.sv_core.specs.declared.contract.LocalInfo.{LocalInfo}
-use Rattle.sv_core.specs.declared.contract.VarKind.{VarKind}
 use Rattle.sv_core.specs.declared.contract.VarKind.TheVariants.{State as StateVariable, Immutable}
 use Rattle.sv_core.specs.declared.expr.Op.{Op}
 use Rattle.sv_core.specs.declared.expr.Op.TheVariants.{Add, Sub, Mul, Div, Mod, Eq, Ne, Lt, Gt, Le, Ge, And, Or, Not, Neg}
 use Rattle.sv_core.specs.declared.expr.Loc.{Loc}
 use Rattle.sv_core.specs.declared.expr.Loc.TheVariants.{Value, Memory, Storage}
 use Rattle.sv_core.specs.declared.expr.EnvName.{EnvName}
-use Rattle.sv_core.specs.declared.expr.EnvName.TheVariants.{Sender, Value as SentValue, Time, Number, This, Balance}
+use Rattle.sv_core.specs.declared.expr.EnvName.TheVariants.{Sender, Value as SentValue, This, Balance}
 use Rattle.sv_core.specs.declared.expr.OutKind.{OutKind}
 use Rattle.sv_core.specs.declared.expr.OutKind.TheVariants.{Transfer, Send, Call as CallKind, Typed}
 use Rattle.sv_core.specs.PlainCode as code
@@ -368,33 +367,32 @@ abbrev mutual
   ExprFormed s (code.Node place t kind) = KindFormed s t kind
 
   pub KindFormed : Scope → ℕ → Kind → Type 0
-  KindFormed s t (code.Num negative m) = (m < 2 ^ 128) × NumberFormed s t negative m
-  KindFormed s t (code.Truth b) = IsType s.core.types t BoolType
-  KindFormed s t (code.Local k) = (local : LocalInfo) × ((slice_get s.locals k ≡ Some local) × (t ≡ local.t))
-  -- a constructor reads no immutable: it may not be set yet
-  KindFormed s t (code.State k) = (v : Variable) × ((slice_get s.core.vars k ≡ Some v) × ((t ≡ v.t) × (s.text ≡ Code true → v.kind ≡ StateVariable)))
-  KindFormed s t (code.Env name) = MayName s.text name × IsType s.core.types t (env_type name)
-  KindFormed s t (code.Field a k) = ExprFormed s a × ((fields : List ℕ) × (Has s a (Struct fields) × (slice_get fields k ≡ Some t)))
+  KindFormed s t (code.Num negative m) = (m < 2 ^ 128) × NumberFormed s t negative m  -- else the literal is over the limit, or no value of its type
+  KindFormed s t (code.Truth b) = IsType s.core.types t BoolType  -- else a truth value stands for a number
+  KindFormed s t (code.Local k) = (local : LocalInfo) × ((slice_get s.locals k ≡ Some local) × (t ≡ local.t))  -- else there is no such local, or it holds another type
+  KindFormed s t (code.State k) = (v : Variable) × ((slice_get s.core.vars k ≡ Some v) × ((t ≡ v.t) × (s.text ≡ Code true → v.kind ≡ StateVariable)))  -- else there is no such variable, or a constructor reads an immutable that may not be set yet
+  KindFormed s t (code.Env name) = MayName s.text name × IsType s.core.types t (env_type name)  -- else an annotation would change its truth while no code runs
+  KindFormed s t (code.Field a k) = ExprFormed s a × ((fields : List ℕ) × (Has s a (Struct fields) × (slice_get fields k ≡ Some t)))  -- else there is no such field
   KindFormed s t (code.Index a i) = (ExprFormed s a × ExprFormed s i)
       × ((IsArrayOf s.core.types (type_of a) t × InCodeOrNote s.text (IsUnsigned s (type_of i)) (IsInteger s (type_of i)))
-      ⊎ ((key : ℕ) × (Has s a (Mapping key t) × InCodeOrNote s.text (type_of i ≡ key) ((type_of i ≡ key) ⊎ (IsInteger s key × IsInteger s (type_of i))))))
-  KindFormed s t (code.Length a) = ExprFormed s a × (((element : ℕ) × IsArrayOf s.core.types (type_of a) element) × IsType s.core.types t (Uint 256))
-  KindFormed s t (code.Unary op a) = ExprFormed s a × UnaryFormed s t op (type_of a)
-  KindFormed s t (code.Binary op a b) = (ExprFormed s a × ExprFormed s b) × OpFormed s t op (type_of a) (type_of b)
+      ⊎ ((key : ℕ) × (Has s a (Mapping key t) × InCodeOrNote s.text (type_of i ≡ key) ((type_of i ≡ key) ⊎ (IsInteger s key × IsInteger s (type_of i))))))  -- else there is no such element, or the key is of another type
+  KindFormed s t (code.Length a) = ExprFormed s a × (((element : ℕ) × IsArrayOf s.core.types (type_of a) element) × IsType s.core.types t (Uint 256))  -- else there is nothing to count
+  KindFormed s t (code.Unary op a) = ExprFormed s a × UnaryFormed s t op (type_of a)  -- else the operator has no meaning on this operand
+  KindFormed s t (code.Binary op a b) = (ExprFormed s a × ExprFormed s b) × OpFormed s t op (type_of a) (type_of b)  -- else the operator has no meaning on these operands
   KindFormed s t (code.Cond c a b) = (ExprFormed s c × (ExprFormed s a × ExprFormed s b))
-      × (Has s c BoolType × ((place_of s a ≡ place_of s b) × InCodeOrNote s.text ((type_of a ≡ t) × (type_of b ≡ t)) (((type_of a ≡ t) × (type_of b ≡ t)) ⊎ Arithmetic s t (type_of a) (type_of b))))
-  KindFormed s t (code.Convert a) = ExprFormed s a × Converts s (type_of a) t
-  KindFormed s t (code.Limit greatest) = IsInteger s t
-  KindFormed s t (code.Call f args) = (g : Function) × ((slice_get s.core.funcs f ≡ Some g) × (MayCall s.text g × (TypeOfResults s (types_of (results_of g)) t × ArgsFormed s args (take g.params g.locals))))
-  KindFormed s t (code.Outside how target value args results) = (s.text ≡ Code false) × (ExprFormed s target × (MaybeFormed s value × (OutsideArgsFormed s args × OutsideFormed s t how (type_of target) value args results)))
-  KindFormed s t (code.Push a code.Nothing) = IsCode s.text × (ExprFormed s a × ((place_of s a ≡ Storage) × Has s a (Dynamic t)))
-  KindFormed s t (code.Push a (code.Just e)) = IsCode s.text × ((ExprFormed s a × ExprFormed s e) × ((place_of s a ≡ Storage) × (IsType s.core.types t BoolType × ((element : ℕ) × (Has s a (Dynamic element) × Stored s e element)))))
-  KindFormed s t (code.Pop a) = IsCode s.text × (ExprFormed s a × ((place_of s a ≡ Storage) × (IsType s.core.types t BoolType × ((element : ℕ) × (Has s a (Dynamic element) × IsFlat s.core.types element)))))
-  KindFormed s t (code.Make fields) = IsCode s.text × (AllFormed s fields × MadeFormed s t fields)
-  KindFormed s t (code.NewArray n) = IsCode s.text × (ExprFormed s n × (IsUnsigned s (type_of n) × ((element : ℕ) × (IsType s.core.types t (Dynamic element) × IsValueType s.core.types element))))
-  KindFormed s t (code.Copy to a) = IsCode s.text × (ExprFormed s a × ((type_of a ≡ t) × (IsCopied s t × CopyFormed s to a)))
-  KindFormed s t (code.Old a) = (s.text ≡ Postcondition) × (ExprFormed s a × ((type_of a ≡ t) × IsValueType s.core.types t))
-  KindFormed s t (code.Sum k) = (IsCode s.text → ⊥) × ((v : Variable) × ((slice_get s.core.vars k ≡ Some v) × (IsInteger s t × ((key : ℕ) × ((element : ℕ) × (IsType s.core.types v.t (Mapping key element) × IsInteger s element))))))
+      × (Has s c BoolType × ((place_of s a ≡ place_of s b) × InCodeOrNote s.text ((type_of a ≡ t) × (type_of b ≡ t)) (((type_of a ≡ t) × (type_of b ≡ t)) ⊎ Arithmetic s t (type_of a) (type_of b))))  -- else the value would be held at one of two places, or be of one of two types
+  KindFormed s t (code.Convert a) = ExprFormed s a × Converts s (type_of a) t  -- else the value stands for none of the other type
+  KindFormed s t (code.Limit greatest) = IsInteger s t  -- else the type has no greatest and no least value
+  KindFormed s t (code.Call f args) = (g : Function) × ((slice_get s.core.funcs f ≡ Some g) × (MayCall s.text g × (TypeOfResults s (types_of (results_of g)) t × ArgsFormed s args (take g.params g.locals))))  -- else nobody is called, or a parameter has no value
+  KindFormed s t (code.Outside how target value args results) = (s.text ≡ Code false) × (ExprFormed s target × (MaybeFormed s value × (OutsideArgsFormed s args × OutsideFormed s t how (type_of target) value args results)))  -- else nobody is called, or a contract that isn't there yet is called back
+  KindFormed s t (code.Push a code.Nothing) = IsCode s.text × (ExprFormed s a × ((place_of s a ≡ Storage) × Has s a (Dynamic t)))  -- else there is no array that can grow
+  KindFormed s t (code.Push a (code.Just e)) = IsCode s.text × ((ExprFormed s a × ExprFormed s e) × ((place_of s a ≡ Storage) × (IsType s.core.types t BoolType × ((element : ℕ) × (Has s a (Dynamic element) × Stored s e element)))))  -- the same, or the new element is of another type
+  KindFormed s t (code.Pop a) = IsCode s.text × (ExprFormed s a × ((place_of s a ≡ Storage) × (IsType s.core.types t BoolType × ((element : ℕ) × (Has s a (Dynamic element) × IsFlat s.core.types element)))))  -- else there is no array that can shrink, or arrays in what is popped would keep their elements
+  KindFormed s t (code.Make fields) = IsCode s.text × (AllFormed s fields × MadeFormed s t fields)  -- else a field has no value
+  KindFormed s t (code.NewArray n) = IsCode s.text × (ExprFormed s n × (IsUnsigned s (type_of n) × ((element : ℕ) × (IsType s.core.types t (Dynamic element) × IsValueType s.core.types element))))  -- else an element has no default
+  KindFormed s t (code.Copy to a) = IsCode s.text × (ExprFormed s a × ((type_of a ≡ t) × (IsCopied s t × CopyFormed s to a)))  -- else the copy would share a part with what it copies
+  KindFormed s t (code.Old a) = (s.text ≡ Postcondition) × (ExprFormed s a × ((type_of a ≡ t) × IsValueType s.core.types t))  -- else there is no entry that has the value
+  KindFormed s t (code.Sum k) = (IsCode s.text → ⊥) × ((v : Variable) × ((slice_get s.core.vars k ≡ Some v) × (IsInteger s t × ((key : ℕ) × ((element : ℕ) × (IsType s.core.types v.t (Mapping key element) × IsInteger s element))))))  -- else there are no numbers to add up
 
   pub AllFormed : Scope → Exprs → Type 0
   AllFormed s code.Nil = Unit {0}

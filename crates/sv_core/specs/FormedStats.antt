@@ -1,21 +1,19 @@
 -- Believed: when a statement and a body are formed. Hold it against Solidity's documentation, "Expressions and Control Structures", and `docs/language.md`.
-use Rattle.std.specs.Prelude.{◌≡◌, ◌≤◌, ◌<◌, ◌+◌, ◌^◌, ◌⊎◌, ◌++◌, ℕ, Bool, true, false, List, [], ◌∷◌, Option, Some, None, length, take, slice_get}
-use Rattle.std.specs.List.{range_with_len}
-use Rattle.sv_type.specs.declared.info.TypeInfo.{TypeInfo}
+use Rattle.std.specs.Prelude.{◌≡◌, ◌<◌, ◌^◌, ◌⊎◌, ◌++◌, ℕ, Bool, true, false, List, [], ◌∷◌, Option, Some, None, length, slice_get}
 use Rattle.sv_type.specs.declared.info.TypeInfo.TheVariants.{Bool as BoolType, Mapping}
 use Rattle.sv_type.specs.TypeParts.{IsFlat}
 use Rattle.sv_core.specs.declared.contract.LocalInfo.{LocalInfo}
-use Rattle.sv_core.specs.declared.contract.VarKind.TheVariants.{State as StateVariable, Immutable}
+use Rattle.sv_core.specs.declared.contract.VarKind.TheVariants.{State as StateVariable}
 use Rattle.sv_core.specs.declared.expr.Op.{Op}
 use Rattle.sv_core.specs.declared.expr.Op.TheVariants.{Add, Sub, Mul, Div, Mod}
 use Rattle.sv_core.specs.declared.expr.Loc.{Loc}
 use Rattle.sv_core.specs.declared.expr.Loc.TheVariants.{Value, Memory, Storage}
 use Rattle.sv_core.specs.declared.expr.OutKind.TheVariants.{Call as CallKind, Typed}
 use Rattle.sv_core.specs.PlainCode as code
-use Rattle.sv_core.specs.PlainCode.{Expr, Exprs, Maybe, Stmt, Act, Stmts, Arms}
-use Rattle.sv_core.specs.PlainCore.{Contract, Variable, Function}
+use Rattle.sv_core.specs.PlainCode.{Expr, Stmt, Act, Stmts, Arms}
+use Rattle.sv_core.specs.PlainCore.{Variable, Function}
 use Rattle.sv_core.specs.FormedTypes.{IsType}
-use Rattle.sv_core.specs.FormedExprs.{Text, Code, Invariant, Condition, Postcondition, Scope, type_of, place_of, held, results_of, types_of, effects, HasOneEffect, reached_through, IsInteger, IsReference, IsCopied, GivesOne, Goes, Stored, ExprFormed, IsCopyToStorage}
+use Rattle.sv_core.specs.FormedExprs.{Code, Condition, Scope, type_of, place_of, held, results_of, HasOneEffect, reached_through, IsInteger, IsCopied, GivesOne, Goes, Stored, ExprFormed}
 
 -- ---- targets
 
@@ -131,21 +129,21 @@ abbrev mutual
   StmtFormed s frame turning (code.Numbered n place act) = ActFormed s frame turning act
 
   pub ActFormed : Scope → Frame → Bool → Act → Type 0
-  ActFormed s frame turning (code.Set a e) = IsTarget s a × (ExprFormed s e × (TakesFrom s a e × HasOneEffect s (reached_through a ++ e ∷ [])))
+  ActFormed s frame turning (code.Set a e) = IsTarget s a × (ExprFormed s e × (TakesFrom s a e × HasOneEffect s (reached_through a ++ e ∷ [])))  -- else nothing holds the value, or it is of another type
   ActFormed s frame turning (code.Update a op e) = (IsTarget s a × (ExprFormed s a × ExprFormed s e))
-      × (IsArithmetic op × (IsInteger s (type_of a) × ((type_of e ≡ type_of a) × (GivesOne s.core e × HasOneEffect s (a ∷ e ∷ [])))))
-  ActFormed s frame turning (code.Delete a) = IsTarget s a × (IsDeleted s a × HasOneEffect s (reached_through a))
-  ActFormed s frame turning (code.Do e) = ExprFormed s e × HasOneEffect s (e ∷ [])
-  ActFormed s frame turning (code.Many slots e) = ExprFormed s e × (ManyFormed s slots e × HasOneEffect s (e ∷ []))
-  ActFormed s frame turning (code.If arms otherwise) = ArmsFormed s frame turning arms × BodyFormed s frame turning otherwise
-  ActFormed s frame turning (code.Loop notes test body update) = (length notes < 2 ^ 32) × (NotesFormed (in_notes s) notes × (TestFormed s test × (BodyFormed s frame true body × BodyFormed s frame true update)))
-  ActFormed s frame turning code.Break = turning ≡ true
-  ActFormed s frame turning code.Continue = turning ≡ true
-  ActFormed s frame turning (code.Return values) = ReturnFormed s frame.returns values
-  ActFormed s frame turning (code.Require e) = TestFormed s e
-  ActFormed s frame turning (code.Assert e) = TestFormed s e
-  ActFormed s frame turning (code.Revert values) = ValuesFormed s values
-  ActFormed s frame turning (code.Emit values) = ValuesFormed s values
+      × (IsArithmetic op × (IsInteger s (type_of a) × ((type_of e ≡ type_of a) × (GivesOne s.core e × HasOneEffect s (a ∷ e ∷ [])))))  -- else the operator has no meaning on these operands
+  ActFormed s frame turning (code.Delete a) = IsTarget s a × (IsDeleted s a × HasOneEffect s (reached_through a))  -- else there is no default to set it back to
+  ActFormed s frame turning (code.Do e) = ExprFormed s e × HasOneEffect s (e ∷ [])  -- else what is done would depend on an order that nothing says
+  ActFormed s frame turning (code.Many slots e) = ExprFormed s e × (ManyFormed s slots e × HasOneEffect s (e ∷ []))  -- else a local would get none of the results, or one of another type
+  ActFormed s frame turning (code.If arms otherwise) = ArmsFormed s frame turning arms × BodyFormed s frame turning otherwise  -- else no branch is the one that runs
+  ActFormed s frame turning (code.Loop notes test body update) = (length notes < 2 ^ 32) × (NotesFormed (in_notes s) notes × (TestFormed s test × (BodyFormed s frame true body × BodyFormed s frame true update)))  -- else a label names no invariant, or nothing says whether another turn comes
+  ActFormed s frame turning code.Break = turning ≡ true  -- else there is no loop to leave
+  ActFormed s frame turning code.Continue = turning ≡ true  -- else there is no loop to go on with
+  ActFormed s frame turning (code.Return values) = ReturnFormed s frame.returns values  -- else a result has no value, or one of another type
+  ActFormed s frame turning (code.Require e) = TestFormed s e  -- else nothing says whether it reverts
+  ActFormed s frame turning (code.Assert e) = TestFormed s e  -- else nothing says whether the check fails
+  ActFormed s frame turning (code.Revert values) = ValuesFormed s values  -- else a value of the error is none that can be copied
+  ActFormed s frame turning (code.Emit values) = ValuesFormed s values  -- else a value of the event is none that can be copied
   -- a `_` stands in a modifier and in no loop
   ActFormed s frame turning code.Rest = (frame.is_modifier ≡ true) × (turning ≡ false)
   -- only bodies whose modifiers are expanded have a frame

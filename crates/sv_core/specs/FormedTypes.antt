@@ -1,7 +1,7 @@
 -- Believed: when the list of a contract's types is formed. Hold it against Solidity's documentation, "Types". Behind each clause stands what would go wrong without it.
-use Rattle.std.specs.Prelude.{◌≡◌, ◌≤◌, ◌<◌, ◌*◌, ◌^◌, ◌⊎◌, ℕ, Bool, true, false, List, [], ◌∷◌, Option, Some, None, Contains, All, length, slice_get}
+use Rattle.std.specs.Prelude.{◌≡◌, ◌≤◌, ◌<◌, ◌*◌, ◌^◌, ◌⊎◌, ℕ, Bool, true, false, List, Some, Contains, length, slice_get}
 use Rattle.sv_type.specs.declared.info.TypeInfo.{TypeInfo}
-use Rattle.sv_type.specs.declared.info.TypeInfo.TheVariants.{Uint, Int, Bool as BoolType, Address, Contract, Enum, Struct, Fixed, Dynamic, Mapping}
+use Rattle.sv_type.specs.declared.info.TypeInfo.TheVariants.{Uint, Int, Bool as BoolType, Enum, Struct, Fixed, Dynamic, Mapping}
 use Rattle.sv_type.specs.TypeParts.{IsOrdered, ContainsType, IsValueType}
 
 -- the number stands for this type

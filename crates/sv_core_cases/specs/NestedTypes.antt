@@ -1,5 +1,5 @@
 -- Serves the proof: a list of types in which types stand inside types.
-use Rattle.std.specs.Prelude.{true, false, List, [], ◌∷◌}
+use Rattle.std.specs.Prelude.{List, [], ◌∷◌}
 use Rattle.sv_type.specs.declared.info.TypeInfo.{TypeInfo}
 use Rattle.sv_type.specs.declared.info.TypeInfo.TheVariants.{Bool, Uint, Struct, Fixed, Dynamic, Mapping}
 

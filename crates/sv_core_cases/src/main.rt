@@ -49,12 +49,20 @@ fn print_cases(rt: &HostRuntime) -> Result<(), Error> {
 fn print_contract(rt: &HostRuntime, plan: &Plan<'_>) -> Result<(), Error> {
     let mut names = Names::new(rt.alloc());
     let core = built(rt.alloc(), &mut names, plan)?;
-    let copy = copy_core(rt.alloc(), &core)?;
-    print_function(rt, &names, &core, &copy, FuncId::Constructor)?;
-    for k in 0..u32::try_from(plan.funcs.len()).unwrap_or(0) {
-        print_function(rt, &names, &core, &copy, FuncId::Function(k))?;
+    print_with_copy(rt, &names, &core)
+}
+
+fn print_with_copy(rt: &HostRuntime, names: &Names, core: &Core) -> Result<(), Error> {
+    let copy = copy_core(rt.alloc(), core)?;
+    print_functions(rt, names, core, &copy)
+}
+
+fn print_functions(rt: &HostRuntime, names: &Names, core: &Core, copy: &Core) -> Result<(), Error> {
+    print_function(rt, names, core, copy, FuncId::Constructor)?;
+    for k in 0..u32::try_from(core.funcs.len()).unwrap_or(0) {
+        print_function(rt, names, core, copy, FuncId::Function(k))?;
     }
-    print_function(rt, &names, &core, &copy, FuncId::Gift)
+    print_function(rt, names, core, copy, FuncId::Gift)
 }
 
 fn print_function(

@@ -48,7 +48,7 @@ fn send(alloc: Global, place: Place) -> Result<CExpr, NoMemory> {
     ))
 }
 
-fn stat(alloc: Global, act: Act) -> Result<Stat, NoMemory> {
+fn place_of(act: Act) -> Place {
     let (line, col) = match act {
         Act::Call(line, col, _) => (line, col),
         Act::Send(line, col) => (line, col),
@@ -56,20 +56,31 @@ fn stat(alloc: Global, act: Act) -> Result<Stat, NoMemory> {
         Act::Loop(line, col, _) => (line, col),
         Act::Rest => (1, 1),
     };
-    let place = Place { line, col };
-    let kind = match act {
-        Act::Call(_, _, f) => StatKind::Do(node(place, CKind::Call(f, Items::new(alloc)))),
-        Act::Send(_, _) => StatKind::Do(send(alloc, place)?),
-        Act::Assert(_, _) => StatKind::Assert(node(place, CKind::Truth(true))),
-        Act::Loop(_, _, n) => StatKind::Loop(
+    Place { line, col }
+}
+
+fn kind(alloc: Global, act: Act, place: Place) -> Result<StatKind, NoMemory> {
+    match act {
+        Act::Call(_, _, f) => Ok(StatKind::Do(node(place, CKind::Call(f, Items::new(alloc))))),
+        Act::Send(_, _) => Ok(StatKind::Do(send(alloc, place)?)),
+        Act::Assert(_, _) => Ok(StatKind::Assert(node(place, CKind::Truth(true)))),
+        Act::Loop(_, _, n) => Ok(StatKind::Loop(
             notes(alloc, n)?,
             node(place, CKind::Truth(true)),
             Items::new(alloc),
             Items::new(alloc),
-        ),
-        Act::Rest => StatKind::Rest,
-    };
-    Ok(Stat { no: 1, place, kind })
+        )),
+        Act::Rest => Ok(StatKind::Rest),
+    }
+}
+
+fn stat(alloc: Global, act: Act) -> Result<Stat, NoMemory> {
+    let place = place_of(act);
+    Ok(Stat {
+        no: 1,
+        place,
+        kind: kind(alloc, act, place)?,
+    })
 }
 
 fn body(alloc: Global, acts: &[Act]) -> Result<Items<Stat>, NoMemory> {

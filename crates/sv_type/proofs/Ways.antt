@@ -1,10 +1,10 @@
 -- What the parts of a type decide of the type.
-use Rattle.std.proofs.Common.{◌≡◌, ◌≢◌, ◌∙◌, ◌<◌, ◌↔◌, Bool, true, false, IsTrue, ℕ, List, [], ◌∷◌, Option, Some, None, length, get_or, slice_get, Contains, refl, sym, ap, subst, arith, zero, suc, true≢false}
+use Rattle.std.proofs.Common.{◌≡◌, ◌≢◌, ◌∙◌, ◌<◌, ◌↔◌, Bool, true, false, IsTrue, ℕ, List, [], ◌∷◌, Some, None, length, get_or, slice_get, Contains, refl, sym, ap, subst, arith, zero, suc, true≢false}
 use Rattle.std.proofs.lemmas.List.Elements.{Contains-get_or, All-get_or}
 use Rattle.std.proofs.lemmas.Grind.{get_or_default_zero}
 use Rattle.sv_type.specs.declared.info.TypeInfo.{TypeInfo}
 use Rattle.sv_type.specs.declared.info.TypeInfo.TheVariants.{Struct, Fixed, Dynamic, Mapping}
-use Rattle.sv_type.specs.TypeParts.{is_value, parts_of, held_by, IsOrdered, element_of, Holds, LeadsTo, ContainsType, IsArrayOf, IsValueType, IsFlat}
+use Rattle.sv_type.specs.TypeParts.{is_value, parts_of, held_by, IsOrdered, element_of, Holds, LeadsTo, ContainsType, IsValueType, IsFlat}
 
 same_some : {A : Type 0} (o p : A) → Some o ≡ Some p → o ≡ p
 same_some o p e = cc

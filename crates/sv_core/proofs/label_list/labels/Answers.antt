@@ -1,4 +1,4 @@
-use Rattle.std.proofs.Common.{sym, subst, Contains}
+use Rattle.std.proofs.Common.{sym, subst, Contains, arith}
 use Rattle.std.proofs.lemmas.List.Filters.{dedup_is}
 use Rattle.std.proofs.lemmas.List.Kept.{Contains-dedup, Contains-from_dedup, IsStrictlySortedBy-dedup}
 use Rattle.std.proofs.lemmas.List.Sorted.{Contains-permutation, IsPermutation-sym}
@@ -17,3 +17,6 @@ returns c =
       all = λ l h. rw is (Contains-dedup laws-law same_label _ l (Contains-permutation _ _ l moved (subst (λ xs. Contains xs l) (sym found) h)));
       only = λ l h. subst (λ xs. Contains xs l) found (Contains-permutation _ _ l (IsPermutation-sym _ _ moved) (Contains-from_dedup _ _ l (rw is at h)));
     }
+
+pub returns-in_err-found : goal.returns-in_err-found
+returns-in_err-found c = grind arith

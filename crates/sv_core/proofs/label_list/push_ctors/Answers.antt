@@ -9,3 +9,9 @@ loop-k-preserved c = ctors_next c.args.tally.now c.args.found.now.items c.as_sli
 
 pub returns : goal.returns
 returns c = done_at (λ xs. after_ctors c.args.tally.now (map plain_ctor xs) c.args.found.now.items) c.args.ctors.now c.as_slice-k-items.result.now c.loop-k.k-index c.loop-k.found.items c.as_slice-k-items.ensures (omega arith) c.loop-k.invariant
+
+pub returns-in_err-push_given : goal.returns-in_err-push_given
+returns-in_err-push_given c = grind arith
+
+pub returns-in_err-push_body : goal.returns-in_err-push_body
+returns-in_err-push_body c = grind arith

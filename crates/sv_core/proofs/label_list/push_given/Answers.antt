@@ -9,3 +9,6 @@ loop-g-preserved c = given_next c.args.tally.now c.args.found.now.items c.as_sli
 
 pub returns : goal.returns
 returns c = done_at (λ xs. after_given c.args.tally.now (map plain_given xs) c.args.found.now.items) c.args.given.now c.as_slice-g-items.result.now c.loop-g.g-index c.loop-g.found.items c.as_slice-g-items.ensures (omega arith) c.loop-g.invariant
+
+pub returns-in_err-push_exprs : goal.returns-in_err-push_exprs
+returns-in_err-push_exprs c = grind arith

@@ -9,3 +9,9 @@ loop-u-preserved c = uses_next c.args.tally.now (map plain_mod c.args.mods.now) 
 
 pub returns : goal.returns
 returns c = done_at (λ xs. after_uses c.args.tally.now (map plain_mod c.args.mods.now) (map plain_use xs) c.args.found.now.items) c.args.uses.now c.as_slice-u-items.result.now c.loop-u.u-index c.loop-u.found.items c.as_slice-u-items.ensures (omega arith) c.loop-u.invariant
+
+pub returns-in_err-push_exprs : goal.returns-in_err-push_exprs
+returns-in_err-push_exprs c = grind arith
+
+pub returns-in_err-push_modifier : goal.returns-in_err-push_modifier
+returns-in_err-push_modifier c = grind arith

@@ -15,3 +15,36 @@ push_arms-loop-arm-preserved t c = arms_next c.args.tally.now c.args.found.now.i
 
 pub push_arms-returns : goal.push_arms-returns
 push_arms-returns t c = done_at (λ xs. after_arms c.args.tally.now (arms (map plain_arm xs)) c.args.found.now.items) c.args.list.now c.as_slice-arm-items.result.now c.loop-arm.arm-index c.loop-arm.found.items c.as_slice-arm-items.ensures (omega arith) c.loop-arm.invariant
+
+pub push_act-returns-in_err-push_expr-in-Set : goal.push_act-returns-in_err-push_expr-in-Set
+push_act-returns-in_err-push_expr-in-Set t c = grind arith
+
+pub push_act-returns-in_err-push_expr-in-Update : goal.push_act-returns-in_err-push_expr-in-Update
+push_act-returns-in_err-push_expr-in-Update t c = grind arith
+
+pub push_act-returns-in_err-push_arms-in-If : goal.push_act-returns-in_err-push_arms-in-If
+push_act-returns-in_err-push_arms-in-If t c = grind arith
+
+pub push_act-returns-in_err-count-in-Loop : goal.push_act-returns-in_err-count-in-Loop
+push_act-returns-in_err-count-in-Loop t c = grind arith
+
+pub push_act-returns-in_err-push_loop-in-Loop : goal.push_act-returns-in_err-push_loop-in-Loop
+push_act-returns-in_err-push_loop-in-Loop t c = grind arith
+
+pub push_act-returns-in_err-push_expr-in-Loop : goal.push_act-returns-in_err-push_expr-in-Loop
+push_act-returns-in_err-push_expr-in-Loop t c = grind arith
+
+pub push_act-returns-in_err-push_body-in-Loop : goal.push_act-returns-in_err-push_body-in-Loop
+push_act-returns-in_err-push_body-in-Loop t c = grind arith
+
+pub push_act-returns-in_err-push-in-Assert : goal.push_act-returns-in_err-push-in-Assert
+push_act-returns-in_err-push-in-Assert t c = grind arith
+
+pub push_arm-returns-in_err-push_expr : goal.push_arm-returns-in_err-push_expr
+push_arm-returns-in_err-push_expr t c = grind arith
+
+pub push_arms-returns-in_err-push_arm : goal.push_arms-returns-in_err-push_arm
+push_arms-returns-in_err-push_arm t c = grind arith
+
+pub push_body-returns-in_err-push_stat : goal.push_body-returns-in_err-push_stat
+push_body-returns-in_err-push_stat t c = grind arith

@@ -1,8 +1,8 @@
-use Rattle.std.proofs.Common.{◌≡◌, ◌≢◌, Bool, false, eqb, ◌∙◌, ◌<◌, ℕ, List, Some, Contains, length, get_or, slice_get, refl, sym, ap, subst, arith, below_more}
+use Rattle.std.proofs.Common.{◌≡◌, ◌≢◌, Bool, false, eqb, ◌∙◌, ◌<◌, ℕ, Some, length, get_or, refl, sym, ap, subst, arith, below_more}
 use Rattle.std.proofs.lemmas.Bool.{eqb-false}
 use Rattle.sv_type.specs.declared.info.TypeInfo.TheVariants.{Struct, Fixed, Dynamic, Mapping}
-use Rattle.sv_type.specs.TypeParts.{ContainsType, IsOrdered}
-use Rattle.sv_type.proofs.Ways.{contains_itself, contains_by_one, contains_by_some, contains_by_none, contains_by_value, part_below, item_at, not_so, is_so, none_held}
+use Rattle.sv_type.specs.TypeParts.{ContainsType}
+use Rattle.sv_type.proofs.Ways.{contains_by_one, contains_by_some, contains_by_none, contains_by_value, part_below, item_at, not_so, is_so, none_held}
 use Rattle.sv_type.proofs.types.Types.+contains.Goals as goal
 
 in_range : (p t arg n : ℕ) {part : ℕ} → arg ≡ t → arg < n → p < arg → part < n → (p < t) × ((p < n) × (part < n))

@@ -1,4 +1,4 @@
-use Rattle.std.proofs.Common.{◌≡◌, ◌∙◌, ◌<◌, ◌↔◌, ℕ, Bool, true, false, true≢false, IsTrue, Some, length, get_or, refl, sym, ap, subst, arith, below_more}
+use Rattle.std.proofs.Common.{◌≡◌, ◌∙◌, ◌<◌, ◌↔◌, ℕ, true, false, true≢false, IsTrue, Some, length, get_or, refl, sym, ap, subst, arith, below_more}
 use Rattle.sv_type.specs.declared.info.TypeInfo.TheVariants.{Struct, Fixed, Dynamic, Mapping}
 use Rattle.sv_type.specs.TypeParts.{IsFlat}
 use Rattle.sv_type.proofs.Ways.{flat_array, flat_by_one, flat_by_parts, flat_part, flat_value, part_below, item_at, not_so, is_so, none_held}

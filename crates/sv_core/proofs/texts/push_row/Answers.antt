@@ -1,0 +1,17 @@
+use Rattle.std.proofs.Common.{arith}
+use Rattle.sv_core.proofs.texts.push_row.Goals as goal
+
+pub returns-in_err-digits : goal.returns-in_err-digits
+returns-in_err-digits c = grind arith
+
+pub returns-in_err-extend_from_slice : goal.returns-in_err-extend_from_slice
+returns-in_err-extend_from_slice c = grind arith
+
+pub returns-in_err-extend_from_slice-2 : goal.returns-in_err-extend_from_slice-2
+returns-in_err-extend_from_slice-2 c = grind arith
+
+pub returns-in_err-extend_from_slice-3 : goal.returns-in_err-extend_from_slice-3
+returns-in_err-extend_from_slice-3 c = grind arith
+
+pub returns-in_err-extend_from_slice-4 : goal.returns-in_err-extend_from_slice-4
+returns-in_err-extend_from_slice-4 c = grind arith
