@@ -1,4 +1,7 @@
 mod ByHand
 mod Combining
+pub mod Entering
+pub mod Forces
+pub mod NewRows
 mod Places
 mod Saturation

@@ -1,5 +1,7 @@
+pub mod CancellingRows
+pub mod Completeness
+pub mod EliminationAnswers
 pub mod Eliminations
 pub mod Renumbering
-pub mod Completeness
+pub mod UnderWay
 pub mod WorkedRows
-pub mod CancellingRows

@@ -5,7 +5,18 @@
 //! Read first: `specs/Eliminations.antt`, then `specs/Renumbering.antt`.
 #![tactic(auto)]
 
+mod answer;
+mod columns;
+mod elimination;
 pub mod laws;
+mod made;
+mod place;
+mod point;
+mod rounds;
+mod sides;
 mod step;
+mod work;
 
+pub use answer::{Eliminated, Excess};
+pub use elimination::eliminate;
 pub use step::{Combination, combine_rows};

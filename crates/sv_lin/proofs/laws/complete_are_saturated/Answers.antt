@@ -1,3 +1,4 @@
+use Rattle.sv_lin.proofs.Entering.{goes_on}
 use Rattle.sv_lin.proofs.Saturation.{complete_saturated}
 use Rattle.sv_lin.proofs.laws.complete_are_saturated.Goals as goal
 
