@@ -1,5 +1,5 @@
 -- Serves the proof: how far elimination has come, and what a step of it leaves.
-use Rattle.std.specs.Prelude.{ℕ, ◌+◌, ◌<◌, ◌≤◌, ◌^◌, ◌↔◌, List, [], ◌∷◌, ◌++◌, map, length, take, ◌≡◌, ℤ, pos, ◌<ℤ◌, Some, slice_get}
+use Rattle.std.specs.Prelude.{ℕ, ◌+◌, ◌<◌, ◌≤◌, ◌^◌, ◌↔◌, ◌⊎◌, List, [], ◌∷◌, ◌++◌, map, length, take, ◌≡◌, ℤ, pos, ◌<ℤ◌, ◌≤ℤ◌, Option, None, Some, slice_get}
 use Rattle.std.specs.List.{Contains}
 use Rattle.sv_log.specs.LogEntries.{Monomial, Row, Entry, Combine, Divide, columns, cost_of_log}
 use Rattle.sv_log.specs.LogRows.{IsCombined, IsDivided}
@@ -8,7 +8,7 @@ use Rattle.sv_point.specs.NearestPoints.{AreBelow, IsRowOf}
 use Rattle.sv_cert.specs.declared.log.Row.{Row as CodeRow}
 use Rattle.sv_cert.specs.PlainLogs.{plain_row}
 use Rattle.sv_lin.specs.Eliminations.{made, in_force, HaveNoAbsurd, AreEntriesOn, AreFormed, IsColumnOf, IsContradiction, IsSpent, AreExceedingRows}
-use Rattle.sv_lin.specs.Completeness.{HaveSum}
+use Rattle.sv_lin.specs.Completeness.{HaveSum, AreCompleteAt}
 use Rattle.sv_lin.specs.declared.made.Made.{Made}
 use Rattle.sv_lin.specs.declared.made.Origin.{Origin}
 use Rattle.sv_lin.specs.declared.made.Origin.TheVariants as o
@@ -136,3 +136,48 @@ AreReadable rows ms = (length rows + length ms < 2 ^ 64) × AreFormed (force row
 abbrev pub columns_among : List Row → List ℕ
 columns_among [] = []
 columns_among (r ∷ rows) = columns r.parts ++ columns_among rows
+
+-- ---- rows that can be made
+
+-- the quotient of row p
+abbrev pub IsQuotient : List Row → ℕ → Made → Type 0
+IsQuotient rows p m = (d : ℤ) × (entry_made m ≡ Divide d p (row_made m)) × (a : Row) × (slice_get rows p ≡ Some a) × IsDivided d a (row_made m)
+
+-- what the rows p and q make
+abbrev pub IsSum : List Row → ℕ → ℕ → Made → Type 0
+IsSum rows p q m = (k l : ℤ) × (entry_made m ≡ Combine k p l q (row_made m)) × (a b : Row)
+    × (slice_get rows p ≡ Some a) × (slice_get rows q ≡ Some b) × IsCombined k a l b (row_made m)
+
+abbrev pub CanBeMade : List Row → Made → Type 0
+CanBeMade rows m = ((p : ℕ) × IsQuotient rows p m) ⊎ ((p q : ℕ) × IsSum rows p q m)
+
+-- the row was there, or was added
+abbrev pub Enters : List Row → Row → List Row → Type 0
+Enters before t after = ((after ≡ before) × Contains before t) ⊎ (after ≡ before ++ t ∷ [])
+
+-- each of the rows ps can be combined with each of the rows qs at the column x
+abbrev pub AreAllPairs : List Row → ℕ → List ℕ → List ℕ → Type 0
+AreAllPairs rows x ps qs = ((p : ℕ) → Contains ps p → IsUpper rows x p) × ((q : ℕ) → Contains qs q → IsLower rows x q)
+
+-- the first n of them were
+abbrev pub CombinesFirstOf : ℕ → List ℕ → List ℕ → List Row → List Row → Type 0
+CombinesFirstOf n ps qs before after = (x : ℕ) → AreAllPairs before x ps qs
+    → GrowsBelow x before after × ((p q : ℕ) → Contains (take n ps) p → Contains qs q → WereCombined after p q)
+
+abbrev pub CombinesAll : List ℕ → List ℕ → List Row → List Row → Type 0
+CombinesAll ps qs before after = CombinesFirstOf (length ps) ps qs before after
+
+-- the columns that are left, and those that are done
+pub record AreLeft (rows : List Row) (cs left : List ℕ) : Type 0 where
+  pub done : List ℕ
+  pub is : cs ≡ left ++ done
+  pub complete : (x : ℕ) → Contains done x → AreCompleteAt rows x
+
+-- the number n is put on the side of its factor
+abbrev pub AddsSide : ℕ → Option ℤ → List ℕ → List ℕ → List ℕ → List ℕ → Type 0
+AddsSide n None us ls us' ls' = (us' ≡ us) × (ls' ≡ ls)
+AddsSide n (Some k) us ls us' ls' = ((pos 0 <ℤ k) × (us' ≡ us ++ n ∷ []) × (ls' ≡ ls)) ⊎ ((k ≤ℤ pos 0) × (us' ≡ us) × (ls' ≡ ls ++ n ∷ []))
+
+-- some row is without columns and with a positive constant
+abbrev pub HasAbsurd : List Row → Type 0
+HasAbsurd rows = (r : Row) × Contains rows r × IsAbsurd (Bound r)

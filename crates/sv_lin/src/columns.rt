@@ -24,8 +24,8 @@ fn add_columns(parts: &[(i128, usize)], columns: &mut Vec<usize>) -> Result<(), 
     ensures { OnOk result
         (columns.new.items ≡ columns.old.items ++ columns_of (monomials parts.now)) }
 {
-    for &(_factor, column) in parts {
-        columns.push(column)?;
+    for part in parts {
+        columns.push(part.1)?;
     }
     Ok(())
 }

@@ -1,3 +1,11 @@
+ghost use Rattle.std.specs.Prelude.{◌≡◌, ◌<◌, ◌≤◌, ◌^◌, ℕ, map, length, IfOk, MatchBool};
+ghost use Rattle.sv_cert.specs.PlainLogs.{plain_entry, plain_row};
+ghost use Rattle.sv_lin.specs.Eliminations.{AreFormed, HaveNoAbsurd};
+ghost use Rattle.sv_lin.specs.EliminationAnswers.{placed_by, IsAnswer};
+ghost use Rattle.sv_lin.specs.Completeness.{AreComplete};
+ghost use Rattle.sv_lin.specs.UnderWay.{entry_made, entries_of, force, given, IsUnderWay, AreColumns, HasAbsurd};
+ghost use Rattle.sv_lin.specs.Placing.{placed};
+
 use crate::answer::{Eliminated, Excess};
 use crate::columns::columns;
 use crate::made::{Made, Origin, Outcome};
@@ -11,7 +19,9 @@ use sv_cert::{Entry, Row};
 use sv_term::TermId;
 use sv_text::NoMemory;
 
-fn entry_of(made: Made) -> Entry {
+fn entry_of(made: Made) -> Entry
+    ensures { plain_entry result ≡ entry_made made }
+{
     match made.origin {
         Origin::Combined(m, p, n, q) => Entry::Combine(m, p, n, q, made.row),
         Origin::Divided(by, p) => Entry::Divide(by, p, made.row),
@@ -19,7 +29,9 @@ fn entry_of(made: Made) -> Entry {
 }
 
 /// The entries of the rows that were made, in order.
-fn entries(alloc: Global, work: Work) -> Result<Items<Entry>, NoMemory> {
+fn entries(alloc: Global, work: Work) -> Result<Items<Entry>, NoMemory>
+    ensures { IfOk result (λ es. map plain_entry es ≡ entries_of work.made.items) }
+{
     let mut left = work.into_made();
     left.reverse();
     let mut entries = Vec::new(alloc);
@@ -30,20 +42,44 @@ fn entries(alloc: Global, work: Work) -> Result<Items<Entry>, NoMemory> {
 }
 
 /// The columns of the places with numerator and denominator.
-fn listed(alloc: Global, places: &[Place]) -> Result<Items<(TermId, i128, i128)>, NoMemory> {
+fn listed(alloc: Global, places: &[Place]) -> Result<Items<(TermId, i128, i128)>, NoMemory>
+    ensures { IfOk result (λ ps. map placed_by ps ≡ map placed places.now) }
+{
     let mut list = Vec::new(alloc);
     for place in places {
-        list.push((TermId(place.column), place.value.top(), place.value.under()))?;
+        list.push((
+            TermId(place.column),
+            place.value.top(),
+            place.value.under(),
+        ))?;
     }
     Ok(Items::from_vec(list))
 }
 
+/// Whether a row is without columns and has a positive constant.
+fn has_absurd(rows: &[Row]) -> bool
+    ensures { MatchBool result (HasAbsurd (given rows.now)) (HaveNoAbsurd (given rows.now)) }
+{
+    for row in rows {
+        if is_absurd(row) {
+            return true;
+        }
+    }
+    false
+}
+
+/// The point of rows of which nothing more can be combined.
 fn place(
     alloc: Global,
     rows: &[Row],
     work: Work,
     columns: &[usize],
-) -> Result<Eliminated, NoMemory> {
+) -> Result<Eliminated, NoMemory>
+    requires way { (limit : ℕ) × IsUnderWay (given rows.now) limit (entries_of work.made.items) }
+    requires columns { AreColumns (given rows.now) columns.now }
+    requires complete { AreComplete (force rows.now work.made.items) }
+    ensures { IfOk result (λ a. (limit : ℕ) → IsAnswer (given rows.now) limit a) }
+{
     match place_columns(alloc, rows, &work, columns)? {
         Placing::All(places) => {
             let point = listed(alloc, &places)?;
@@ -51,15 +87,23 @@ fn place(
         }
         Placing::Exceeds(number, places) => {
             let point = listed(alloc, &places)?;
-            Ok(Eliminated::Excess(entries(alloc, work)?, Excess::Value(number as u32, point)))
+            Ok(Eliminated::Excess(
+                entries(alloc, work)?,
+                Excess::Value(number as u32, point),
+            ))
         }
     }
 }
 
-/// Eliminates the columns of the rows, from the greatest down.
-pub fn eliminate(alloc: Global, rows: &[Row], limit: u64) -> Result<Eliminated, NoMemory> {
+/// Eliminates the columns of the rows, from the greatest down. A limit is what the entries may cost.
+pub fn eliminate(alloc: Global, rows: &[Row], limit: u64) -> Result<Eliminated, NoMemory>
+    requires few { length rows.now < 2 ^ 31 }
+    requires formed { AreFormed (map plain_row rows.now) }
+    requires limit { (1 ≤ limit) × (limit ≤ 200000) }
+    ensures { IfOk result (λ a. IsAnswer (map plain_row rows.now) limit a) }
+{
     let mut work = Work::new(alloc);
-    if rows.iter().any(is_absurd) {
+    if has_absurd(rows) {
         return Ok(Eliminated::Contradiction(entries(alloc, work)?));
     }
     let columns = columns(alloc, rows)?;

@@ -1,3 +1,12 @@
+ghost use Rattle.std.specs.Prelude.{◌≡◌, ◌<◌, ◌<ℤ◌, pos, ℕ, length, IfOk, MatchOption};
+ghost use Rattle.std.specs.List.{Contains};
+
+ghost use Rattle.sv_lin.specs.Eliminations.{HaveNoAbsurd};
+ghost use Rattle.sv_lin.specs.Completeness.{AreComplete};
+ghost use Rattle.sv_lin.specs.declared.point.Limit.TheVariants.{At};
+ghost use Rattle.sv_lin.specs.UnderWay.{force, AreReadable, RiseFrom};
+ghost use Rattle.sv_lin.specs.Placing.{point_of, AreReduced, AreOfColumns, IsAt, IsTightest, Tightens, IsNotAbove, IsNotBelow, Chooses, Places};
+
 use crate::place::{Place, bound_at};
 use crate::sides::sides_of;
 use crate::work::Work;
@@ -9,10 +18,16 @@ use sv_text::NoMemory;
 
 /// The bound of a side that goes furthest, or the number of a row whose bound is too large.
 #[derive(Clone, Copy, Debug)]
-enum Limit {
+pub enum Limit {
     Unlimited,
     At(Fraction),
     Exceeds(usize),
+}
+
+#[derive(Clone, Copy, Debug)]
+pub enum Side {
+    Upper,
+    Lower,
 }
 
 /// The places of all columns, or those below the greatest of a row whose bound is too large.
@@ -22,39 +37,78 @@ pub enum Placing {
     Exceeds(usize, Vec<Place>),
 }
 
-/// The bound to keep of two: the one that stands to the other as `wanted`.
-fn tighter(best: Limit, bound: Fraction, wanted: Ordering) -> Limit {
+/// Of the bound so far and another the lesser upper one, or the greater lower one.
+fn tighter(side: Side, best: Limit, bound: Fraction) -> Limit
+    ensures { Tightens side best bound result }
+{
     match best {
-        Limit::At(other) if bound.compare(&other) != wanted => best,
+        Limit::At(other) => match (bound.compare(&other), side) {
+            (Ordering::Less, Side::Upper) | (Ordering::Greater, Side::Lower) => Limit::At(bound),
+            _ => Limit::At(other),
+        },
         _ => Limit::At(bound),
     }
 }
 
-/// The least of the bounds, or the greatest, as `wanted` says how it stands to others.
-fn tightest(
-    rows: &[Row],
-    work: &Work,
-    side: &[usize],
-    places: &[Place],
-    wanted: Ordering,
-) -> Limit {
+/// The least of upper bounds, or the greatest of lower ones.
+fn tightest(rows: &[Row], work: &Work, places: &[Place], side: Side, numbers: &[usize]) -> Limit
+    requires readable { AreReadable rows.now work.now.made.items }
+    requires reduced { AreReduced (point_of places.now) }
+    requires there { (x : ℕ) × ((p : ℕ) → Contains numbers.now p → IsAt (force rows.now work.now.made.items) x p) }
+    ensures { (x : ℕ) → ((p : ℕ) → Contains numbers.now p → IsAt (force rows.now work.now.made.items) x p)
+        → IsTightest (force rows.now work.now.made.items) (point_of places.now) x side numbers.now result }
+{
     let mut best = Limit::Unlimited;
-    for &number in side {
-        let Some(bound) = bound_at(work.row(rows, number), places) else {
-            return Limit::Exceeds(number);
-        };
-        best = tighter(best, bound, wanted);
+    for &number in numbers {
+        match bound_at(work.row(rows, number), places) {
+            Some(bound) => best = tighter(side, best, bound),
+            None => return Limit::Exceeds(number),
+        }
     }
     best
 }
 
-/// The fraction nearest to 0 between a lower and an upper bound.
-fn nearest(lower: Limit, upper: Limit) -> Fraction {
-    match (lower, upper) {
-        (Limit::At(bound), _) if bound.top() > 0 => bound,
-        (_, Limit::At(bound)) if bound.top() < 0 => bound,
-        _ => Fraction::zero(),
+fn above_zero(limit: Limit) -> Option<Fraction>
+    ensures { MatchOption result (IsNotAbove limit) (λ f. (limit ≡ At f) × (pos 0 <ℤ f.top)) }
+{
+    match limit {
+        Limit::At(bound) => {
+            if bound.top() > 0 {
+                Some(bound)
+            } else {
+                None
+            }
+        }
+        _ => None,
     }
+}
+
+fn below_zero(limit: Limit) -> Option<Fraction>
+    ensures { MatchOption result (IsNotBelow limit) (λ f. (limit ≡ At f) × (f.top <ℤ pos 0)) }
+{
+    match limit {
+        Limit::At(bound) => {
+            if bound.top() < 0 {
+                Some(bound)
+            } else {
+                None
+            }
+        }
+        _ => None,
+    }
+}
+
+/// The fraction nearest to 0 between a lower and an upper bound.
+fn nearest(lower: Limit, upper: Limit) -> Fraction
+    ensures { Chooses lower upper result }
+{
+    if let Some(bound) = above_zero(lower) {
+        return bound;
+    }
+    if let Some(bound) = below_zero(upper) {
+        return bound;
+    }
+    Fraction::zero()
 }
 
 /// The nearest point of the rows in force, column by column.
@@ -63,15 +117,22 @@ pub fn place_columns(
     rows: &[Row],
     work: &Work,
     columns: &[usize],
-) -> Result<Placing, NoMemory> {
+) -> Result<Placing, NoMemory>
+    requires readable { AreReadable rows.now work.now.made.items }
+    requires columns { RiseFrom 0 columns.now }
+    requires complete { AreComplete (force rows.now work.now.made.items)
+        × HaveNoAbsurd (force rows.now work.now.made.items) }
+    requires within { AreOfColumns (force rows.now work.now.made.items) columns.now }
+    ensures { IfOk result (λ p. Places (force rows.now work.now.made.items) columns.now p) }
+{
     let mut places: Vec<Place> = Vec::new(alloc);
     for &column in columns {
         let sides = sides_of(alloc, rows, work, column)?;
-        let upper = tightest(rows, work, &sides.uppers, &places, Ordering::Less);
+        let upper = tightest(rows, work, &places, Side::Upper, &sides.uppers);
         if let Limit::Exceeds(number) = upper {
             return Ok(Placing::Exceeds(number, places));
         }
-        let lower = tightest(rows, work, &sides.lowers, &places, Ordering::Greater);
+        let lower = tightest(rows, work, &places, Side::Lower, &sides.lowers);
         if let Limit::Exceeds(number) = lower {
             return Ok(Placing::Exceeds(number, places));
         }

@@ -1,9 +1,10 @@
-ghost use Rattle.std.specs.Prelude.{◌≡◌, ◌<◌, ◌∷◌, [], ℕ, List, length, slice_get, Some, IfOk};
-ghost use Rattle.std.specs.List.{Contains};
+ghost use Rattle.std.specs.Prelude.{◌≡◌, ◌<◌, ◌≤ℤ◌, ◌∷◌, [], ℕ, pos, length, unsigned_abs, IfOk, IfSome, MatchOption};
+ghost use Rattle.sv_row.specs.RowParts.{monomials, Divides};
+ghost use Rattle.sv_lin.specs.Eliminations.{AreFormed, AreExceedingRows};
 ghost use Rattle.sv_lin.specs.Completeness.{AreCompleteAt, AreComplete};
-ghost use Rattle.sv_lin.specs.UnderWay.{entries_of, force, given, IsUnderWay, Ends, GrowsUnder, GrowsBelow, IsUpper, IsLower, ArePairs, CombinesPairs, AreColumns};
+ghost use Rattle.sv_lin.specs.UnderWay.{entries_of, row_made, force, given, IsUnderWay, Ends, GrowsUnder, GrowsBelow, ArePairs, CombinesPairs, AreColumns, IsQuotient, IsSum, CanBeMade, Enters, AreAllPairs, CombinesAll};
 
-use crate::made::{Origin, Outcome};
+use crate::made::{Made, Origin, Outcome};
 use crate::sides::sides_of;
 use crate::step::combine_rows;
 use crate::work::Work;
@@ -14,7 +15,94 @@ use sv_num::ceil_div;
 use sv_row::{divided, divisor};
 use sv_text::NoMemory;
 
-/// Divides the row by the greatest divisor of its numbers, unless that is 1 or makes a row in force.
+/// The greatest number that divides each number of the parts, if it is 2 or more.
+fn divisor_of(parts: &[(i128, usize)]) -> Option<i128>
+    ensures { IfSome result (λ d. (pos 2 ≤ℤ d) × Divides (unsigned_abs d) (monomials parts.now)) }
+{
+    let greatest = divisor(parts);
+    if 2 <= greatest && greatest < 1 << 127 {
+        Some(greatest as i128)
+    } else {
+        None
+    }
+}
+
+/// The row's quotient by the greatest divisor of its numbers, if that is 2 or more.
+fn quotient(
+    alloc: Global,
+    rows: &[Row],
+    work: &Work,
+    number: usize,
+) -> Result<Option<Made>, NoMemory>
+    requires { number < length (force rows.now work.now.made.items) }
+    ensures { IfOk result
+        (λ q. IfSome q (λ m. IsQuotient (force rows.now work.now.made.items) number m)) }
+{
+    let row = work.row(rows, number);
+    let Some(by) = divisor_of(row.parts.as_slice()) else {
+        return Ok(None);
+    };
+    let constant = ceil_div(row.constant, by);
+    let parts = divided(alloc, by, row.parts.as_slice())?;
+    Ok(Some(Made {
+        origin: Origin::Divided(by, number),
+        row: Row {
+            constant,
+            parts: Items::from_vec(parts),
+        },
+    }))
+}
+
+/// What two rows make; `None` where a number of it is no `i128`.
+fn combination(
+    alloc: Global,
+    rows: &[Row],
+    work: &Work,
+    upper: usize,
+    lower: usize,
+) -> Result<Option<Made>, NoMemory>
+    requires formed { AreFormed (force rows.now work.now.made.items) }
+    requires pair { (x : ℕ) × ArePairs (force rows.now work.now.made.items) x upper (lower ∷ []) }
+    ensures { IfOk result
+        (λ s. MatchOption s (AreExceedingRows (force rows.now work.now.made.items) upper lower)
+        (λ m. IsSum (force rows.now work.now.made.items) upper lower m)) }
+{
+    let first = work.row(rows, upper);
+    let second = work.row(rows, lower);
+    let sum = combine_rows(
+        alloc,
+        first.constant,
+        first.parts.as_slice(),
+        second.constant,
+        second.parts.as_slice(),
+    )?;
+    let Some(sum) = sum else {
+        return Ok(None);
+    };
+    Ok(Some(Made {
+        origin: Origin::Combined(sum.m, upper, sum.n, lower),
+        row: Row {
+            constant: sum.constant,
+            parts: Items::from_vec(sum.parts),
+        },
+    }))
+}
+
+/// Adds the row, unless it is in force.
+fn enter(rows: &[Row], limit: u64, work: &mut Work, made: Made) -> Result<Outcome, NoMemory>
+    requires way { IsUnderWay (given rows.now) limit (entries_of work.old.made.items) }
+    requires sound { CanBeMade (force rows.now work.old.made.items) made }
+    ensures { IfOk result (λ o. Ends (given rows.now) limit (entries_of work.new.made.items)
+        (Enters (force rows.now work.old.made.items) (row_made made) (force rows.now work.new.made.items)) o) }
+{
+    if work.holds(rows, &made.row) {
+        return Ok(Outcome::On);
+    }
+    let Made { origin, row } = made;
+    work.add(limit, origin, row)
+}
+
+/// Adds the row's quotient, if there is one.
 fn divide(
     alloc: Global,
     rows: &[Row],
@@ -27,22 +115,14 @@ fn divide(
     ensures { IfOk result (λ o. Ends (given rows.now) limit (entries_of work.new.made.items)
         (GrowsUnder number (force rows.now work.old.made.items) (force rows.now work.new.made.items)) o) }
 {
-    let row = work.row(rows, number);
-    let greatest = divisor(row.parts.as_slice());
-    if greatest < 2 || 1 << 127 <= greatest {
-        return Ok(Outcome::On);
+    let made = quotient(alloc, rows, work, number)?;
+    match made {
+        Some(made) => enter(rows, limit, work, made),
+        None => Ok(Outcome::On),
     }
-    let by = greatest as i128;
-    let constant = ceil_div(row.constant, by);
-    let parts = Items::from_vec(divided(alloc, by, row.parts.as_slice())?);
-    let quotient = Row { constant, parts };
-    if work.holds(rows, &quotient) {
-        return Ok(Outcome::On);
-    }
-    work.add(limit, Origin::Divided(by, number), quotient)
 }
 
-/// Combines two rows, and divides what they make, unless it is in force.
+/// Combines two rows, and divides what they make.
 fn combine(
     alloc: Global,
     rows: &[Row],
@@ -57,29 +137,20 @@ fn combine(
         (CombinesPairs upper (lower ∷ [])
         (force rows.now work.old.made.items) (force rows.now work.new.made.items)) o) }
 {
-    let first = work.row(rows, upper);
-    let second = work.row(rows, lower);
-    let made = combine_rows(
-        alloc,
-        first.constant,
-        first.parts.as_slice(),
-        second.constant,
-        second.parts.as_slice(),
-    )?;
+    let made = combination(alloc, rows, work, upper, lower)?;
     let Some(made) = made else {
         return Ok(Outcome::Exceeds(upper, lower));
     };
-    let origin = Origin::Combined(made.m, upper, made.n, lower);
-    let row = Row {
-        constant: made.constant,
-        parts: Items::from_vec(made.parts),
-    };
-    if work.holds(rows, &row) {
-        return Ok(Outcome::On);
-    }
-    let number = work.len(rows);
-    match work.add(limit, origin, row)? {
-        Outcome::On => divide(alloc, rows, limit, work, number),
+    let before = work.len(rows);
+    match enter(rows, limit, work, made)? {
+        Outcome::On => {
+            let after = work.len(rows);
+            if before < after {
+                divide(alloc, rows, limit, work, before)
+            } else {
+                Ok(Outcome::On)
+            }
+        }
         outcome => Ok(outcome),
     }
 }
@@ -99,14 +170,38 @@ fn combine_with_lowers(
         (force rows.now work.old.made.items) (force rows.now work.new.made.items)) o) }
 {
     for &lower in lowers {
-        let outcome = combine(alloc, rows, limit, work, upper, lower)?;
-        if !matches!(outcome, Outcome::On) {
-            return Ok(outcome);
+        match combine(alloc, rows, limit, work, upper, lower)? {
+            Outcome::On => {}
+            outcome => return Ok(outcome),
         }
     }
     Ok(Outcome::On)
 }
 
+fn combine_sides(
+    alloc: Global,
+    rows: &[Row],
+    limit: u64,
+    work: &mut Work,
+    uppers: &[usize],
+    lowers: &[usize],
+) -> Result<Outcome, NoMemory>
+    requires way { IsUnderWay (given rows.now) limit (entries_of work.old.made.items) }
+    requires pairs { (x : ℕ) × AreAllPairs (force rows.now work.old.made.items) x uppers.now lowers.now }
+    ensures { IfOk result (λ o. Ends (given rows.now) limit (entries_of work.new.made.items)
+        (CombinesAll uppers.now lowers.now
+        (force rows.now work.old.made.items) (force rows.now work.new.made.items)) o) }
+{
+    for &upper in uppers {
+        match combine_with_lowers(alloc, rows, limit, work, upper, lowers)? {
+            Outcome::On => {}
+            outcome => return Ok(outcome),
+        }
+    }
+    Ok(Outcome::On)
+}
+
+/// Combines each two rows that can be combined at the column.
 fn eliminate_column(
     alloc: Global,
     rows: &[Row],
@@ -120,13 +215,14 @@ fn eliminate_column(
         × AreCompleteAt (force rows.now work.new.made.items) column) o) }
 {
     let sides = sides_of(alloc, rows, work, column)?;
-    for &upper in &sides.uppers {
-        let outcome = combine_with_lowers(alloc, rows, limit, work, upper, &sides.lowers)?;
-        if !matches!(outcome, Outcome::On) {
-            return Ok(outcome);
-        }
-    }
-    Ok(Outcome::On)
+    combine_sides(
+        alloc,
+        rows,
+        limit,
+        work,
+        sides.uppers.as_slice(),
+        sides.lowers.as_slice(),
+    )
 }
 
 fn divide_given(
@@ -136,14 +232,37 @@ fn divide_given(
     work: &mut Work,
 ) -> Result<Outcome, NoMemory>
     requires { IsUnderWay (given rows.now) limit (entries_of work.old.made.items) }
-    ensures { IfOk result (λ o. Ends (given rows.now) limit (entries_of work.new.made.items)
-        (Unit {0}) o) }
+    ensures { IfOk result
+        (λ o. Ends (given rows.now) limit (entries_of work.new.made.items) (Unit {0}) o) }
 {
     for number in 0..rows.len() {
-        let outcome = divide(alloc, rows, limit, work, number)?;
-        if !matches!(outcome, Outcome::On) {
-            return Ok(outcome);
+        match divide(alloc, rows, limit, work, number)? {
+            Outcome::On => {}
+            outcome => return Ok(outcome),
         }
+    }
+    Ok(Outcome::On)
+}
+
+fn eliminate_from(
+    alloc: Global,
+    rows: &[Row],
+    limit: u64,
+    work: &mut Work,
+    columns: &[usize],
+) -> Result<Outcome, NoMemory>
+    requires way { IsUnderWay (given rows.now) limit (entries_of work.old.made.items) }
+    requires columns { AreColumns (given rows.now) columns.now }
+    ensures { IfOk result (λ o. Ends (given rows.now) limit (entries_of work.new.made.items)
+        (AreComplete (force rows.now work.new.made.items)) o) }
+{
+    let mut left = columns;
+    while let Some((&column, rest)) = left.split_last() {
+        match eliminate_column(alloc, rows, limit, work, column)? {
+            Outcome::On => {}
+            outcome => return Ok(outcome),
+        }
+        left = rest;
     }
     Ok(Outcome::On)
 }
@@ -161,17 +280,8 @@ pub fn eliminate_columns(
     ensures { IfOk result (λ o. Ends (given rows.now) limit (entries_of work.new.made.items)
         (AreComplete (force rows.now work.new.made.items)) o) }
 {
-    let outcome = divide_given(alloc, rows, limit, work)?;
-    if !matches!(outcome, Outcome::On) {
-        return Ok(outcome);
+    match divide_given(alloc, rows, limit, work)? {
+        Outcome::On => eliminate_from(alloc, rows, limit, work, columns),
+        outcome => Ok(outcome),
     }
-    let mut left = columns;
-    while let Some((&column, rest)) = left.split_last() {
-        let outcome = eliminate_column(alloc, rows, limit, work, column)?;
-        if !matches!(outcome, Outcome::On) {
-            return Ok(outcome);
-        }
-        left = rest;
-    }
-    Ok(Outcome::On)
 }

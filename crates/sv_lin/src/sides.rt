@@ -1,9 +1,9 @@
-ghost use Rattle.std.specs.Prelude.{ℤ, ◌≡◌, ◌<◌, length, slice_get, Some, IfOk, MatchOption};
+ghost use Rattle.std.specs.Prelude.{ℤ, ◌≡◌, ◌<◌, length, slice_get, Some, IfOk, OnOk, MatchOption};
 ghost use Rattle.std.specs.List.{Contains};
 ghost use Rattle.sv_cert.specs.PlainLogs.{plain_row};
 ghost use Rattle.sv_point.specs.NearestPoints.{IsRowOf};
 ghost use Rattle.sv_lin.specs.Eliminations.{IsFormed};
-ghost use Rattle.sv_lin.specs.UnderWay.{force, AreReadable, AreSides};
+ghost use Rattle.sv_lin.specs.UnderWay.{force, AreReadable, AreSides, AddsSide};
 
 use crate::work::Work;
 use std::alloc::Global;
@@ -33,22 +33,33 @@ pub fn factor_at(row: &Row, column: usize) -> Option<i128>
     }
 }
 
+impl Sides {
+    /// Puts the number of a row on the side of its factor; a row without factor is left out.
+    fn add(&mut self, number: usize, factor: Option<i128>) -> Result<(), NoMemory>
+        ensures { OnOk result (AddsSide number factor self.old.uppers.items self.old.lowers.items
+            self.new.uppers.items self.new.lowers.items) }
+    {
+        match factor {
+            Some(factor) if factor > 0 => self.uppers.push(number)?,
+            Some(_) => self.lowers.push(number)?,
+            None => {}
+        }
+        Ok(())
+    }
+}
+
 /// The rows in force of which the column is the greatest.
 pub fn sides_of(alloc: Global, rows: &[Row], work: &Work, column: usize) -> Result<Sides, NoMemory>
     requires { AreReadable rows.now work.now.made.items }
     ensures { IfOk result (λ s. AreSides (force rows.now work.now.made.items) column
         (length (force rows.now work.now.made.items)) s.uppers.items s.lowers.items) }
 {
-    let mut uppers = Vec::new(alloc);
-    let mut lowers = Vec::new(alloc);
+    let mut sides = Sides {
+        uppers: Vec::new(alloc),
+        lowers: Vec::new(alloc),
+    };
     for number in 0..work.len(rows) {
-        if let Some(factor) = factor_at(work.row(rows, number), column) {
-            if factor > 0 {
-                uppers.push(number)?;
-            } else {
-                lowers.push(number)?;
-            }
-        }
+        sides.add(number, factor_at(work.row(rows, number), column))?;
     }
-    Ok(Sides { uppers, lowers })
+    Ok(sides)
 }

@@ -1,0 +1,157 @@
+-- The start of an elimination, and its answers.
+use Rattle.std.proofs.Common.{ℕ, zero, suc, ◌+◌, ◌<◌, ◌≤◌, ◌^◌, ◌⊎◌, inl, inr, Bool, true, false, nat_eq, List, [], ◌∷◌, ◌++◌, map, length, ◌≡◌, refl, sym, ap, ap₂, ◌∙◌, subst, arith}
+use Rattle.std.proofs.lemmas.List.{append-nil, length-map}
+use Rattle.std.proofs.lemmas.List.Elements.{Contains-append_left, Contains-append_right, Contains-append_cases}
+use Rattle.std.proofs.lemmas.Bool.Decides.{Decides-eqb}
+use Rattle.std.proofs.lemmas.Option.{slice_get_within}
+use Rattle.std.specs.List.{Contains}
+use Rattle.std.specs.Prelude.{Some, slice_get, slice_index_or, ◌↔◌}
+use lib.IntN.{ℤ, pos}
+use Rattle.sv_log.specs.LogEntries.{Monomial, Row, Entry, columns}
+use Rattle.sv_log.specs.LogRows.{monomial}
+use Rattle.sv_log.specs.Logs.{Bound, IsAbsurd}
+use Rattle.sv_fraction.specs.Fractions.{Ratio, ratio, IsReduced}
+use Rattle.sv_point.specs.NearestPoints.{IsRowOf, IsMet, IsNearestAt}
+use Rattle.sv_lin.specs.Eliminations.{made, in_force, HaveNoAbsurd, AreEntriesOn, IsContradiction, Placed, value_in, IsColumnOf, AreFrom, ListsColumns, IsNearestIn, IsPoint, IsExcess, IsExceedingValue, AreFormed}
+use Rattle.sv_lin.specs.Completeness.{AreComplete}
+use Rattle.sv_lin.specs.declared.place.Place.{Place}
+use Rattle.sv_lin.specs.UnderWay.{EachColumn, IsUnderWay, RiseFrom, AreColumns}
+use Rattle.sv_lin.specs.Placing.{placed, point_of, columns_placed, ExceedsAt, AreReduced, ArePlaced, StopsAt, AreOfColumns}
+use Rattle.sv_lin.proofs.NewRows.{each_own, each_weaker, each_last}
+use Rattle.sv_lin.proofs.Gathering.{rises_behind}
+use Rattle.sv_lin.proofs.NearPoints.{nearest_without, met_if_near, placed_none}
+use Rattle.sv_lin.proofs.Saturation.{complete_saturated}
+
+-- ---- the start
+
+no_entries : (rows : List Row) → AreEntriesOn rows []
+no_entries rows = record { of_rows = tt; accepted = λ ts h. tt; no_absurd = λ r c. absurd (let l = c.1 in omega (arith, l)) }
+
+pub started : (rows : List Row) (limit : ℕ) → length rows < 2 ^ 31 → AreFormed rows → 1 ≤ limit → limit ≤ 200000 → HaveNoAbsurd rows → IsUnderWay rows limit []
+started rows limit few formed low high none = record {
+  few = few;
+  small = high;
+  entries = no_entries rows;
+  none = subst HaveNoAbsurd (sym (append-nil rows)) none;
+  cheap = omega (arith, low);
+  formed = subst AreFormed (sym (append-nil rows)) formed;
+  within = λ r c.
+      let d = subst (λ z. Contains z r) (append-nil rows) c in
+      each_weaker (λ x. Contains (columns r.parts) x) (IsColumnOf rows) (λ x e. (r, d, e)) r.parts (each_own r.parts);
+}
+
+pub given_contradicts : (rows : List Row) (r : Row) → Contains rows r → IsAbsurd (Bound r) → IsContradiction rows []
+given_contradicts rows r c a = record { entries = no_entries rows; row = r; absurd = a; place = inl c }
+
+-- ---- columns
+
+not_in : (cs : List ℕ) (x y : ℕ) → (y ≡ x → ⊥) → (Contains cs x → ⊥) → (k : ℕ) → k < length (y ∷ cs) → slice_index_or (y ∷ cs) k x ≡ x → ⊥
+not_in cs x y n m zero l e = n e
+not_in cs x y n m (suc k) l e = m (k, omega (arith, l), e)
+
+decide : (cs : List ℕ) (x : ℕ) → Contains cs x ⊎ (Contains cs x → ⊥)
+decide [] x = inr (λ c. let l = c.1 in omega (arith, l))
+decide (y ∷ cs) x = go (nat_eq y x) refl (decide cs x)
+  where
+    go : (b : Bool) → nat_eq y x ≡ b → Contains cs x ⊎ (Contains cs x → ⊥) → Contains (y ∷ cs) x ⊎ (Contains (y ∷ cs) x → ⊥)
+    go true e d = inl (0, omega arith, (Decides-eqb y x).0 e)
+    go false e (inl c) = inl (suc c.0, let l = c.1 in omega (arith, l), c.2)
+    go false e (inr m) = inr (λ c. not_in cs x y (λ d. let f = (Decides-eqb y x).1 d in let g : true ≡ false = sym f ∙ e in cc g) m c.0 c.1 c.2)
+
+from_rises : (n : ℕ) (ps : List Placed) → RiseFrom n (map (λ p. p.column) ps) → AreFrom n ps
+from_rises n [] h = tt
+from_rises n (p ∷ ps) h = (h.0, from_rises (p.column + 1) ps h.1)
+
+rises_before : (n : ℕ) (xs ys : List ℕ) → RiseFrom n (xs ++ ys) → RiseFrom n xs
+rises_before n [] ys h = tt
+rises_before n (x ∷ xs) ys h = (h.0, rises_before (x + 1) xs ys h.1)
+
+floor : (n x : ℕ) (xs ys : List ℕ) → RiseFrom n (xs ++ x ∷ ys) → n ≤ x
+floor n x [] ys h = h.0
+floor n x (w ∷ xs) ys h = let a = floor (w + 1) x xs ys h.1 in let b = h.0 in omega (arith, a, b)
+
+-- what stands before x is below it
+below_split : (n : ℕ) (xs ys : List ℕ) (x y : ℕ) → RiseFrom n (xs ++ x ∷ ys) → Contains xs y → y < x
+below_split n [] ys x y h c = absurd (let l = c.1 in omega (arith, l))
+below_split n (z ∷ xs) ys x y h c = go c.0 c.1 c.2 (below_split (z + 1) xs ys x y h.1)
+  where
+    go : (k : ℕ) → k < length (z ∷ xs) → slice_index_or (z ∷ xs) k y ≡ y → (Contains xs y → y < x) → y < x
+    go zero l e f = let a = floor (z + 1) x xs ys h.1 in omega (arith, a, e)
+    go (suc k) l e f = f (k, omega (arith, l), e)
+
+module _ (rows : List Row) (limit : ℕ) (es : List Entry) (w : IsUnderWay rows limit es) (cs : List ℕ) (c : AreColumns rows cs) where
+  -- each column of a row in force is listed
+  pub of_columns : AreOfColumns (in_force rows es) cs
+  of_columns r i = each_weaker (IsColumnOf rows) (Contains cs) (λ x h. (c.each x).1 h) r.parts (w.within r i)
+
+  greatest_listed : (x : ℕ) (k : ℤ) (r : Row) → Contains (in_force rows es) r → IsRowOf x k r → Contains cs x
+  greatest_listed x k r i t = each_last (Contains cs) t.lows (monomial k x) (subst (EachColumn (Contains cs)) t.is (of_columns r i))
+
+  module _ (complete : AreComplete (in_force rows es)) (ps : List Place) where
+    nearest_anywhere : ArePlaced (in_force rows es) cs ps → (x : ℕ) → IsNearestIn (in_force rows es) (point_of ps) x
+    nearest_anywhere p x = (p.reduced x, elim (decide cs x) [
+      | inl i ↦ p.nearest x i
+      | inr n ↦ nearest_without (in_force rows es) (point_of ps) x (λ k r i t. n (greatest_listed x k r i t))
+          (placed_none (map placed ps) x (λ i. n (subst (λ z. Contains z x) p.columns i)))
+    ])
+
+    pub is_point : ArePlaced (in_force rows es) cs ps → IsPoint rows es (map placed ps)
+    is_point p = record {
+      entries = w.entries;
+      saturated = complete_saturated (in_force rows es) w.formed complete;
+      lists = record {
+        rising = from_rises 0 (map placed ps) (subst (RiseFrom 0) (sym p.columns) c.rising);
+        each = λ x. (λ i. ((c.each x).0 (subst (λ z. Contains z x) p.columns i), tt), λ h. subst (λ z. Contains z x) (sym p.columns) ((c.each x).1 h.0));
+      };
+      nearest = nearest_anywhere p;
+      meets = λ r i.
+          let j = Contains-append_left rows (made es) r i in
+          met_if_near (in_force rows es) (point_of ps) r w.formed w.none j (λ y k t. (nearest_anywhere p y).1);
+    }
+
+    module _ (i : ℕ) (s : StopsAt (in_force rows es) cs i ps) where
+      listed_before : (y : ℕ) → Contains s.before y → Contains cs y
+      listed_before y h = subst (λ z. Contains z y) (sym s.split) (Contains-append_left s.before (s.x ∷ s.after) y h)
+
+      rising : RiseFrom 0 (s.before ++ s.x ∷ s.after)
+      rising = subst (RiseFrom 0) s.split c.rising
+
+      is_before : (y : ℕ) → y < s.x → Contains cs y → Contains s.before y
+      is_before y l h = elim (Contains-append_cases s.before (s.x ∷ s.after) y (subst (λ z. Contains z y) s.split h)) [
+        | inl a ↦ a
+        | inr b ↦ absurd (not_behind b.0 b.1 b.2)
+      ]
+        where
+          not_behind : (k : ℕ) → k < length (s.x ∷ s.after) → slice_index_or (s.x ∷ s.after) k y ≡ y → ⊥
+          not_behind zero m e = omega (arith, l, e)
+          not_behind (suc k) m e = let a = rises_behind 0 s.before s.after s.x y rising (k, omega (arith, m), e) in omega (arith, a, l)
+
+      nearest_below : (y : ℕ) → y < s.x → IsNearestIn (in_force rows es) (point_of ps) y
+      nearest_below y l = (s.placed.reduced y, elim (decide s.before y) [
+        | inl h ↦ s.placed.nearest y h
+        | inr n ↦ nearest_without (in_force rows es) (point_of ps) y (λ k r j t. n (is_before y l (greatest_listed y k r j t)))
+            (placed_none (map placed ps) y (λ h. n (subst (λ z. Contains z y) s.placed.columns h)))
+      ])
+
+      column_is : s.exceeds.0.column ≡ s.x
+      column_is = s.exceeds.1
+
+      pub exceeds_value : IsExceedingValue rows es i (map placed ps)
+      exceeds_value = record {
+        row = s.row;
+        is = s.is;
+        exceeds = s.exceeds.0;
+        lists = record {
+          rising = from_rises 0 (map placed ps) (subst (RiseFrom 0) (sym s.placed.columns) (rises_before 0 s.before (s.x ∷ s.after) rising));
+          each = λ x. (
+            λ h.
+                let j = subst (λ z. Contains z x) s.placed.columns h in
+                ((c.each x).0 (listed_before x j), subst (λ z. x < z) (sym column_is) (below_split 0 s.before s.after s.x x rising j)),
+            λ h. subst (λ z. Contains z x) (sym s.placed.columns) (is_before x (subst (λ z. x < z) column_is h.1) ((c.each x).1 h.0)),
+          );
+        };
+        nearest = λ x l. nearest_below x (subst (λ z. x < z) column_is l);
+      }
+
+pub is_excess : (rows : List Row) (limit : ℕ) (es : List Entry) → IsUnderWay rows limit es → IsExcess rows es
+is_excess rows limit es w = record { entries = w.entries; none = w.none }
