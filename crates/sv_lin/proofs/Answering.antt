@@ -71,7 +71,7 @@ floor n x [] ys h = h.0
 floor n x (w ∷ xs) ys h = let a = floor (w + 1) x xs ys h.1 in let b = h.0 in omega (arith, a, b)
 
 -- what stands before x is below it
-below_split : (n : ℕ) (xs ys : List ℕ) (x y : ℕ) → RiseFrom n (xs ++ x ∷ ys) → Contains xs y → y < x
+pub below_split : (n : ℕ) (xs ys : List ℕ) (x y : ℕ) → RiseFrom n (xs ++ x ∷ ys) → Contains xs y → y < x
 below_split n [] ys x y h c = absurd (let l = c.1 in omega (arith, l))
 below_split n (z ∷ xs) ys x y h c = go c.0 c.1 c.2 (below_split (z + 1) xs ys x y h.1)
   where
@@ -89,11 +89,14 @@ module _ (rows : List Row) (limit : ℕ) (es : List Entry) (w : IsUnderWay rows 
 
   module _ (complete : AreComplete (in_force rows es)) (ps : List Place) where
     nearest_anywhere : ArePlaced (in_force rows es) cs ps → (x : ℕ) → IsNearestIn (in_force rows es) (point_of ps) x
-    nearest_anywhere p x = (p.reduced x, elim (decide cs x) [
-      | inl i ↦ p.nearest x i
-      | inr n ↦ nearest_without (in_force rows es) (point_of ps) x (λ k r i t. n (greatest_listed x k r i t))
-          (placed_none (map placed ps) x (λ i. n (subst (λ z. Contains z x) p.columns i)))
-    ])
+    nearest_anywhere p x = (
+      p.reduced x,
+      elim (decide cs x) [
+        | inl i ↦ p.nearest x i
+        | inr n ↦ nearest_without (in_force rows es) (point_of ps) x (λ k r i t. n (greatest_listed x k r i t))
+            (placed_none (map placed ps) x (λ i. n (subst (λ z. Contains z x) p.columns i)))
+      ],
+    )
 
     pub is_point : ArePlaced (in_force rows es) cs ps → IsPoint rows es (map placed ps)
     is_point p = record {
@@ -127,11 +130,14 @@ module _ (rows : List Row) (limit : ℕ) (es : List Entry) (w : IsUnderWay rows 
           not_behind (suc k) m e = let a = rises_behind 0 s.before s.after s.x y rising (k, omega (arith, m), e) in omega (arith, a, l)
 
       nearest_below : (y : ℕ) → y < s.x → IsNearestIn (in_force rows es) (point_of ps) y
-      nearest_below y l = (s.placed.reduced y, elim (decide s.before y) [
-        | inl h ↦ s.placed.nearest y h
-        | inr n ↦ nearest_without (in_force rows es) (point_of ps) y (λ k r j t. n (is_before y l (greatest_listed y k r j t)))
-            (placed_none (map placed ps) y (λ h. n (subst (λ z. Contains z y) s.placed.columns h)))
-      ])
+      nearest_below y l = (
+        s.placed.reduced y,
+        elim (decide s.before y) [
+          | inl h ↦ s.placed.nearest y h
+          | inr n ↦ nearest_without (in_force rows es) (point_of ps) y (λ k r j t. n (is_before y l (greatest_listed y k r j t)))
+              (placed_none (map placed ps) y (λ h. n (subst (λ z. Contains z y) s.placed.columns h)))
+        ],
+      )
 
       column_is : s.exceeds.0.column ≡ s.x
       column_is = s.exceeds.1

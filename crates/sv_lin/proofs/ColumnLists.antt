@@ -74,7 +74,7 @@ pub in_order : (rows : List Row) (all sorted done : List ℕ) → all ≡ column
 in_order rows all sorted done e p s d = subst (AreColumns rows) (sym d) record {
   rising = rises 0 (dedup nat_eq sorted) (IsStrictlyIncreasing-dedup sorted s) (λ l. omega arith);
   each = λ x. (
-      λ c. of_row rows x (subst (λ z. Contains z x) e (Contains-permutation sorted all x (IsPermutation-sym all sorted p) (Contains-from_dedup nat_eq sorted x c))),
-      λ c. Contains-dedup_nat sorted x (Contains-permutation all sorted x p (subst (λ z. Contains z x) (sym e) (in_row rows x c))),
+    λ c. of_row rows x (subst (λ z. Contains z x) e (Contains-permutation sorted all x (IsPermutation-sym all sorted p) (Contains-from_dedup nat_eq sorted x c))),
+    λ c. Contains-dedup_nat sorted x (Contains-permutation all sorted x p (subst (λ z. Contains z x) (sym e) (in_row rows x c))),
   );
 }

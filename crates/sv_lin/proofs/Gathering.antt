@@ -177,7 +177,6 @@ combines_after rows after m p q s g c r t e f =
     let b = same_some s.4 t (slice_get after q) (grown_get g.0 rows after g.1 q s.4 s.6) f in
     subst (λ u. HaveSum after u t) a (subst (λ v. HaveSum after s.3 v) b (s.0, s.1, row_made m, s.7, c))
 
-
 get_end : (xs : List Row) (t : Row) → slice_get (xs ++ t ∷ []) (length xs) ≡ Some t
 get_end [] t = refl
 get_end (x ∷ xs) t = get_end xs t
@@ -209,7 +208,7 @@ sum_was rows after m p q s e x u =
 
 -- ---- pairs
 
-take_more : {A : Type 0} (xs : List A) (i : ℕ) (x y : A) → i < length xs → x ≡ get_or xs i x → Contains (take (i + 1) xs) y → Contains (take i xs) y ⊎ (x ≡ y)
+pub take_more : {A : Type 0} (xs : List A) (i : ℕ) (x y : A) → i < length xs → x ≡ get_or xs i x → Contains (take (i + 1) xs) y → Contains (take i xs) y ⊎ (x ≡ y)
 take_more [] i x y l e c = absurd (omega (arith, l))
 take_more (z ∷ xs) zero x y l e c = one c.0 c.1 c.2
   where
@@ -233,7 +232,7 @@ same_default [] i a b l = absurd (omega (arith, l))
 same_default (x ∷ xs) zero a b l = refl
 same_default (x ∷ xs) (suc i) a b l = same_default xs i a b (omega (arith, l))
 
-contains_at : (xs : List ℕ) (i : ℕ) (x : ℕ) → i < length xs → x ≡ get_or xs i x → Contains xs x
+pub contains_at : (xs : List ℕ) (i : ℕ) (x : ℕ) → i < length xs → x ≡ get_or xs i x → Contains xs x
 contains_at [] i x l e = absurd (omega (arith, l))
 contains_at (y ∷ xs) zero x l e = (0, omega arith, sym e)
 contains_at (y ∷ xs) (suc i) x l e = let c = contains_at xs i x (omega (arith, l)) e in (suc c.0, let h = c.1 in omega (arith, h), c.2)
@@ -354,6 +353,10 @@ one_less given rows after cs left rest x c l e g =
         let i : Contains l.done y = (k, omega (arith, h), d) in
         complete_still rows after x y (rises_behind 0 rest l.done x y (subst (RiseFrom 0) is c.rising) i) g.0 (l.complete y i)
 
+pub no_items : (xs : List ℕ) → length xs ≡ 0 → xs ≡ []
+no_items [] e = refl
+no_items (x ∷ xs) e = absurd (omega (arith, e))
+
 pub none_left_over : (given : List Row) (limit : ℕ) (es : List Entry) (cs left : List ℕ) → IsUnderWay given limit es → AreColumns given cs → AreLeft (in_force given es) cs left → left ≡ [] → AreComplete (in_force given es)
 none_left_over given limit es cs left w c l e x k m r s cr ct fr ft hk hm =
     let col = each_last (IsColumnOf given) fr.lows (monomial k x) (subst (EachColumn (IsColumnOf given)) fr.is (w.within r cr)) in
@@ -413,11 +416,11 @@ module _ (rows : List Row) (formed : AreFormed rows) (x n : ℕ) (r : Row) (at :
     each_lower = λ p l u. elim (before_or_last n p l) [
       | inl h ↦ s.each_lower p h u
       | inr h ↦
-        let d = same_some u.1 r (slice_get rows p) u.2 (ap (slice_get rows) (sym h) ∙ at) in
-        let e = same_factor x u.0 k u.1 r d u.3 m in
-        let i = a.0 in
-        let j = u.4 in
-        absurd (opposed u.0 k e i j)
+          let d = same_some u.1 r (slice_get rows p) u.2 (ap (slice_get rows) (sym h) ∙ at) in
+          let e = same_factor x u.0 k u.1 r d u.3 m in
+          let i = a.0 in
+          let j = u.4 in
+          absurd (opposed u.0 k e i j)
     ];
   })
     where
@@ -429,9 +432,9 @@ module _ (rows : List Row) (formed : AreFormed rows) (x n : ℕ) (r : Row) (at :
     each_upper = λ p l u. elim (before_or_last n p l) [
       | inl h ↦ s.each_upper p h u
       | inr h ↦
-        let d = same_some u.1 r (slice_get rows p) u.2 (ap (slice_get rows) (sym h) ∙ at) in
-        let e = same_factor x u.0 k u.1 r d u.3 m in
-        absurd (opposed u.0 k e a.0 u.4)
+          let d = same_some u.1 r (slice_get rows p) u.2 (ap (slice_get rows) (sym h) ∙ at) in
+          let e = same_factor x u.0 k u.1 r d u.3 m in
+          absurd (opposed u.0 k e a.0 u.4)
     ];
     each_lower = λ p l u. elim (before_or_last n p l) [
       | inl h ↦ Contains-append_left ls (n ∷ []) p (s.each_lower p h u)

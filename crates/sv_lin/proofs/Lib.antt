@@ -1,3 +1,4 @@
+pub mod Choosing
 pub mod Answering
 pub mod Bounding
 mod ByHand

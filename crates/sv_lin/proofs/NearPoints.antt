@@ -191,7 +191,6 @@ module _ (rows : List Row) (at : ℕ → Ratio) (x : ℕ) (formed : AreFormed ro
     (us ls : List ℕ) (sides : AreSides rows x (length rows) us ls) (upper lower : Limit)
     (tight_upper : IsTightest rows at x s.Upper us upper) (tight_lower : IsTightest rows at x s.Lower ls lower)
     (exceeds_not : ((i : ℕ) → upper ≡ l.Exceeds i → ⊥) × ((i : ℕ) → lower ≡ l.Exceeds i → ⊥)) (f : Ratio) (chooses : Chooses lower upper f) where
-
   -- the bound of a row by its number is the row's
   own_bound : (k : ℤ) (r : Row) (p : ℕ) (g : Ratio) → slice_get rows p ≡ Some r → IsRowOf x k r → HasBound rows at x p g → IsBoundOf at x k r g
   own_bound k r p g e t h =
@@ -303,7 +302,6 @@ module _ (rows : List Row) (at : ℕ → Ratio) (x : ℕ) (formed : AreFormed ro
 
     pub nearest_here : ArePositive bt → IsNearestAt rows bt x
     nearest_here h = chosen rows bt x h is_chosen
-
 
   reduced_by : Chooses lower upper f → IsReduced f
   reduced_by (inl ch) = let low = (subst (IsTightest rows at x s.Lower ls) ch.0 tight_lower).0 in (as_lower low.0 f low.1 low.2).3.bound.reduced

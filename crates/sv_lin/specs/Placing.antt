@@ -1,12 +1,12 @@
 -- Serves the proof: places of columns, the bounds that a side sets, and the fraction that is chosen between two.
-use Rattle.std.specs.Prelude.{ℕ, ◌<◌, List, [], ◌∷◌, ◌++◌, map, take, ◌≡◌, ◌⊎◌, ℤ, pos, ◌<ℤ◌, ◌≤ℤ◌, Some, slice_get}
+use Rattle.std.specs.Prelude.{ℕ, ◌<◌, List, [], ◌∷◌, ◌++◌, map, length, ◌≡◌, ◌⊎◌, ℤ, pos, ◌<ℤ◌, ◌≤ℤ◌, Some, slice_get}
 use Rattle.std.specs.List.{Contains}
 use Rattle.sv_log.specs.LogEntries.{Row}
 use Rattle.sv_fraction.specs.Fractions.{Ratio, ratio, IsReduced}
 use Rattle.sv_point.specs.NearestPoints.{IsRowOf, IsAtMost, IsNearestAt}
 use Rattle.sv_point.specs.PointLaws.{IsBoundOf}
 use Rattle.sv_lin.specs.Eliminations.{Placed, value_in, ExceedsRow}
-use Rattle.sv_lin.specs.UnderWay.{EachColumn}
+use Rattle.sv_lin.specs.UnderWay.{EachColumn, AreSides}
 use Rattle.sv_lin.specs.declared.place.Place.{Place}
 use Rattle.sv_lin.specs.declared.point.Limit.{Limit}
 use Rattle.sv_lin.specs.declared.point.Limit.TheVariants as l
@@ -69,6 +69,26 @@ Chooses lower upper f =
     ((lower ≡ l.At f) × (pos 0 <ℤ f.top))
     ⊎ (((upper ≡ l.At f) × (f.top <ℤ pos 0))
     ⊎ ((f ≡ ratio (pos 0) (pos 1)) × IsNotAbove lower × IsNotBelow upper))
+
+-- no bound exceeds
+abbrev pub IsWithin : Limit → Type 0
+IsWithin limit = (i : ℕ) → limit ≡ l.Exceeds i → ⊥
+
+-- f is chosen between the tightest bounds of the rows of x
+pub record IsFractionAt (rows : List Row) (at : ℕ → Ratio) (x : ℕ) (f : Ratio) : Type 0 where
+  pub uppers : List ℕ
+  pub lowers : List ℕ
+  pub upper : Limit
+  pub lower : Limit
+  pub sides : AreSides rows x (length rows) uppers lowers
+  pub tight_upper : IsTightest rows at x s.Upper uppers upper
+  pub tight_lower : IsTightest rows at x s.Lower lowers lower
+  pub within : IsWithin upper × IsWithin lower
+  pub chooses : Chooses lower upper f
+
+-- the bound of row i exceeds at its greatest column x
+abbrev pub DoesExceed : List Row → (ℕ → Ratio) → ℕ → ℕ → Type 0
+DoesExceed rows at x i = (r : Row) × (slice_get rows i ≡ Some r) × ExceedsAt at x r
 
 -- ---- the columns so far
 

@@ -47,11 +47,7 @@ fn listed(alloc: Global, places: &[Place]) -> Result<Items<(TermId, i128, i128)>
 {
     let mut list = Vec::new(alloc);
     for place in places {
-        list.push((
-            TermId(place.column),
-            place.value.top(),
-            place.value.under(),
-        ))?;
+        list.push((TermId(place.column), place.value.top(), place.value.under()))?;
     }
     Ok(Items::from_vec(list))
 }
@@ -69,12 +65,7 @@ fn has_absurd(rows: &[Row]) -> bool
 }
 
 /// The point of rows of which nothing more can be combined.
-fn place(
-    alloc: Global,
-    rows: &[Row],
-    work: Work,
-    columns: &[usize],
-) -> Result<Eliminated, NoMemory>
+fn place(alloc: Global, rows: &[Row], work: Work, columns: &[usize]) -> Result<Eliminated, NoMemory>
     requires way { (limit : ℕ) × IsUnderWay (given rows.now) limit (entries_of work.made.items) }
     requires columns { AreColumns (given rows.now) columns.now }
     requires complete { AreComplete (force rows.now work.made.items) }
@@ -87,10 +78,7 @@ fn place(
         }
         Placing::Exceeds(number, places) => {
             let point = listed(alloc, &places)?;
-            Ok(Eliminated::Excess(
-                entries(alloc, work)?,
-                Excess::Value(number as u32, point),
-            ))
+            Ok(Eliminated::Excess(entries(alloc, work)?, Excess::Value(number as u32, point)))
         }
     }
 }

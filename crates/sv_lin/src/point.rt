@@ -1,11 +1,10 @@
-ghost use Rattle.std.specs.Prelude.{◌≡◌, ◌<◌, ◌<ℤ◌, pos, ℕ, length, IfOk, MatchOption};
+ghost use Rattle.std.specs.Prelude.{◌≡◌, ◌<◌, ◌<ℤ◌, pos, ℕ, length, IfOk, MatchOption, MatchResult, ◌⊎◌};
 ghost use Rattle.std.specs.List.{Contains};
-
 ghost use Rattle.sv_lin.specs.Eliminations.{HaveNoAbsurd};
 ghost use Rattle.sv_lin.specs.Completeness.{AreComplete};
-ghost use Rattle.sv_lin.specs.declared.point.Limit.TheVariants.{At};
+ghost use Rattle.sv_lin.specs.declared.point.Limit.TheVariants.{At, Exceeds};
 ghost use Rattle.sv_lin.specs.UnderWay.{force, AreReadable, RiseFrom};
-ghost use Rattle.sv_lin.specs.Placing.{point_of, AreReduced, AreOfColumns, IsAt, IsTightest, Tightens, IsNotAbove, IsNotBelow, Chooses, Places};
+ghost use Rattle.sv_lin.specs.Placing.{point_of, AreReduced, AreOfColumns, IsAt, IsTightest, Tightens, IsNotAbove, IsNotBelow, Chooses, IsWithin, IsFractionAt, DoesExceed, Places};
 
 use crate::place::{Place, bound_at};
 use crate::sides::sides_of;
@@ -72,13 +71,7 @@ fn above_zero(limit: Limit) -> Option<Fraction>
     ensures { MatchOption result (IsNotAbove limit) (λ f. (limit ≡ At f) × (pos 0 <ℤ f.top)) }
 {
     match limit {
-        Limit::At(bound) => {
-            if bound.top() > 0 {
-                Some(bound)
-            } else {
-                None
-            }
-        }
+        Limit::At(bound) => { if bound.top() > 0 { Some(bound) } else { None } }
         _ => None,
     }
 }
@@ -87,13 +80,7 @@ fn below_zero(limit: Limit) -> Option<Fraction>
     ensures { MatchOption result (IsNotBelow limit) (λ f. (limit ≡ At f) × (f.top <ℤ pos 0)) }
 {
     match limit {
-        Limit::At(bound) => {
-            if bound.top() < 0 {
-                Some(bound)
-            } else {
-                None
-            }
-        }
+        Limit::At(bound) => { if bound.top() < 0 { Some(bound) } else { None } }
         _ => None,
     }
 }
@@ -102,13 +89,49 @@ fn below_zero(limit: Limit) -> Option<Fraction>
 fn nearest(lower: Limit, upper: Limit) -> Fraction
     ensures { Chooses lower upper result }
 {
-    if let Some(bound) = above_zero(lower) {
+    let above = above_zero(lower);
+    if let Some(bound) = above {
         return bound;
     }
-    if let Some(bound) = below_zero(upper) {
-        return bound;
+    let below = below_zero(upper);
+    match below {
+        Some(bound) => bound,
+        None => Fraction::zero(),
     }
-    Fraction::zero()
+}
+
+/// The fraction nearest to 0 between the bounds, or the row whose bound is too large.
+fn between(lower: Limit, upper: Limit) -> Result<Fraction, usize>
+    ensures { MatchResult result (λ f. Chooses lower upper f × IsWithin lower × IsWithin upper)
+        (λ n. (lower ≡ Exceeds n) ⊎ (upper ≡ Exceeds n)) }
+{
+    match lower {
+        Limit::Exceeds(number) => Err(number),
+        _ => match upper {
+            Limit::Exceeds(number) => Err(number),
+            _ => Ok(nearest(lower, upper)),
+        },
+    }
+}
+
+/// The column's fraction, or the row whose bound there is too large.
+fn fraction_at(
+    alloc: Global,
+    rows: &[Row],
+    work: &Work,
+    places: &[Place],
+    column: usize,
+) -> Result<Result<Fraction, usize>, NoMemory>
+    requires readable { AreReadable rows.now work.now.made.items }
+    requires reduced { AreReduced (point_of places.now) }
+    ensures { IfOk result (λ found. MatchResult found
+        (λ f. IsFractionAt (force rows.now work.now.made.items) (point_of places.now) column f)
+        (λ i. DoesExceed (force rows.now work.now.made.items) (point_of places.now) column i)) }
+{
+    let sides = sides_of(alloc, rows, work, column)?;
+    let upper = tightest(rows, work, places, Side::Upper, sides.uppers.as_slice());
+    let lower = tightest(rows, work, places, Side::Lower, sides.lowers.as_slice());
+    Ok(between(lower, upper))
 }
 
 /// The nearest point of the rows in force, column by column.
@@ -119,7 +142,7 @@ pub fn place_columns(
     columns: &[usize],
 ) -> Result<Placing, NoMemory>
     requires readable { AreReadable rows.now work.now.made.items }
-    requires columns { RiseFrom 0 columns.now }
+    requires rising { RiseFrom 0 columns.now }
     requires complete { AreComplete (force rows.now work.now.made.items)
         × HaveNoAbsurd (force rows.now work.now.made.items) }
     requires within { AreOfColumns (force rows.now work.now.made.items) columns.now }
@@ -127,17 +150,11 @@ pub fn place_columns(
 {
     let mut places: Vec<Place> = Vec::new(alloc);
     for &column in columns {
-        let sides = sides_of(alloc, rows, work, column)?;
-        let upper = tightest(rows, work, &places, Side::Upper, &sides.uppers);
-        if let Limit::Exceeds(number) = upper {
-            return Ok(Placing::Exceeds(number, places));
+        let found = fraction_at(alloc, rows, work, places.as_slice(), column)?;
+        match found {
+            Ok(value) => places.push(Place { column, value })?,
+            Err(number) => return Ok(Placing::Exceeds(number, places)),
         }
-        let lower = tightest(rows, work, &places, Side::Lower, &sides.lowers);
-        if let Limit::Exceeds(number) = lower {
-            return Ok(Placing::Exceeds(number, places));
-        }
-        let value = nearest(lower, upper);
-        places.push(Place { column, value })?;
     }
     Ok(Placing::All(places))
 }

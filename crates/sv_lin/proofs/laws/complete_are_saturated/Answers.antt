@@ -1,3 +1,4 @@
+use Rattle.sv_lin.proofs.Choosing.{nothing_placed}
 use Rattle.sv_lin.proofs.Answering.{is_excess}
 use Rattle.sv_lin.proofs.Making.{column_ends}
 use Rattle.sv_lin.proofs.NearPoints.{placed_none}

@@ -5,8 +5,8 @@ use Rattle.sv_lin.proofs.Forces.{room}
 use Rattle.sv_lin.proofs.Making.{column_ends}
 use Rattle.sv_lin.proofs.rounds.eliminate_column.Goals as goal
 
-pub sides_of-sides-requires : goal.sides_of-sides-requires
-sides_of-sides-requires c = (let r = room c.args.rows.now c.args.limit c.args.work.now.made.items c.requires in omega (arith, r), c.requires.formed)
+pub sides_of-requires : goal.sides_of-requires
+sides_of-requires c = (let r = room c.args.rows.now c.args.limit c.args.work.now.made.items c.requires in omega (arith, r), c.requires.formed)
 
 pub combine_sides-requires-clause-pairs : goal.combine_sides-requires-clause-pairs
 combine_sides-requires-clause-pairs c = (
