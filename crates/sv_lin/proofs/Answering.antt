@@ -1,22 +1,32 @@
 -- The start of an elimination, and its answers.
-use Rattle.std.proofs.Common.{ℕ, zero, suc, ◌+◌, ◌<◌, ◌≤◌, ◌^◌, ◌⊎◌, inl, inr, Bool, true, false, nat_eq, List, [], ◌∷◌, ◌++◌, map, length, ◌≡◌, refl, sym, ap, ap₂, ◌∙◌, subst, arith}
-use Rattle.std.proofs.lemmas.List.{append-nil, length-map}
+use Rattle.std.proofs.Common.{ℕ, zero, suc, ◌+◌, ◌<◌, ◌≤◌, ◌^◌, ◌⊎◌, inl, inr, Bool, true, false, nat_eq, List, [], ◌∷◌, ◌++◌, map, length, reverse, ◌≡◌, refl, sym, ap, ap₂, ◌∙◌, subst, arith, append_assoc}
+use Rattle.std.proofs.lemmas.List.{append-nil, length-map, map-append, reverse-append, reverse-reverse}
 use Rattle.std.proofs.lemmas.List.Elements.{Contains-append_left, Contains-append_right, Contains-append_cases}
 use Rattle.std.proofs.lemmas.Bool.Decides.{Decides-eqb}
 use Rattle.std.proofs.lemmas.Option.{slice_get_within}
 use Rattle.std.specs.List.{Contains}
-use Rattle.std.specs.Prelude.{Some, slice_get, slice_index_or, ◌↔◌}
+use Rattle.std.specs.Option.{option_to_list}
+use Rattle.std.specs.Prelude.{Vec, Option, None, Some, slice_get, slice_index_or, ◌↔◌}
 use lib.IntN.{ℤ, pos}
 use Rattle.sv_log.specs.LogEntries.{Monomial, Row, Entry, columns}
 use Rattle.sv_log.specs.LogRows.{monomial}
 use Rattle.sv_log.specs.Logs.{Bound, IsAbsurd}
 use Rattle.sv_fraction.specs.Fractions.{Ratio, ratio, IsReduced}
 use Rattle.sv_point.specs.NearestPoints.{IsRowOf, IsMet, IsNearestAt}
-use Rattle.sv_lin.specs.Eliminations.{made, in_force, HaveNoAbsurd, AreEntriesOn, IsContradiction, Placed, value_in, IsColumnOf, AreFrom, ListsColumns, IsNearestIn, IsPoint, IsExcess, IsExceedingValue, AreFormed}
+use Rattle.sv_lin.specs.Eliminations.{made, in_force, HaveNoAbsurd, AreEntriesOn, IsContradiction, Placed, value_in, IsColumnOf, AreFrom, ListsColumns, IsNearestIn, IsPoint, IsExcess, IsExceedingValue, AreFormed, IsSpent, AreExceedingRows}
 use Rattle.sv_lin.specs.Completeness.{AreComplete}
 use Rattle.sv_lin.specs.declared.place.Place.{Place}
-use Rattle.sv_lin.specs.UnderWay.{EachColumn, IsUnderWay, RiseFrom, AreColumns}
-use Rattle.sv_lin.specs.Placing.{placed, point_of, columns_placed, ExceedsAt, AreReduced, ArePlaced, StopsAt, AreOfColumns}
+use Rattle.sv_cert.specs.declared.log.Row.{Row as CodeRow}
+use Rattle.sv_cert.specs.declared.log.Entry.{Entry as CodeEntry}
+use Rattle.sv_cert.specs.PlainLogs.{plain_entry}
+use Rattle.sv_lin.specs.declared.made.Made.{Made}
+use Rattle.sv_lin.specs.declared.made.Outcome.{Outcome}
+use Rattle.sv_lin.specs.declared.made.Outcome.TheVariants as out
+use Rattle.sv_lin.specs.UnderWay.{entry_made, entries_of, given, force, EachColumn, IsUnderWay, Ends, RiseFrom, AreColumns}
+use Rattle.sv_lin.proofs.Forces.{length_force, room}
+use Rattle.sv_lin.specs.Placing.{placed, point_of, columns_placed, ExceedsAt, AreReduced, ArePlaced, StopsAt, AreOfColumns, Places}
+use Rattle.sv_lin.specs.declared.point.Placing.{Placing}
+use Rattle.sv_lin.specs.declared.point.Placing.TheVariants as pl
 use Rattle.sv_lin.proofs.NewRows.{each_own, each_weaker, each_last}
 use Rattle.sv_lin.proofs.Gathering.{rises_behind}
 use Rattle.sv_lin.proofs.NearPoints.{nearest_without, met_if_near, placed_none}
@@ -161,3 +171,50 @@ module _ (rows : List Row) (limit : ℕ) (es : List Entry) (w : IsUnderWay rows 
 
 pub is_excess : (rows : List Row) (limit : ℕ) (es : List Entry) → IsUnderWay rows limit es → IsExcess rows es
 is_excess rows limit es w = record { entries = w.entries; none = w.none }
+
+-- ---- entries as the code lists them
+
+pub entries_begin : (es : List CodeEntry) (all left turned : List Made) → es ≡ [] → left ≡ all → turned ≡ reverse left → map plain_entry es ++ entries_of (reverse turned) ≡ entries_of all
+entries_begin es all left turned e f g =
+    ap (λ z. map plain_entry z ++ entries_of (reverse turned)) e
+    ∙ (ap (λ z. entries_of (reverse z)) g ∙ (ap entries_of (reverse-reverse left) ∙ ap entries_of f))
+
+pub entries_more : (es new : List CodeEntry) (all left rest : List Made) (o : Option Made) (m : Made) (e : CodeEntry) → map plain_entry es ++ entries_of (reverse left) ≡ entries_of all
+    → left ≡ rest ++ option_to_list o → o ≡ Some m → new ≡ es ++ e ∷ [] → plain_entry e ≡ entry_made m → map plain_entry new ++ entries_of (reverse rest) ≡ entries_of all
+entries_more es new all left rest o m e h l s n p =
+    ap (λ z. map plain_entry z ++ entries_of (reverse rest)) n
+    ∙ (ap (λ z. z ++ entries_of (reverse rest)) (map-append plain_entry es (e ∷ []))
+    ∙ (append_assoc (map plain_entry es) (plain_entry e ∷ []) (entries_of (reverse rest))
+    ∙ (ap (λ z. map plain_entry es ++ z ∷ entries_of (reverse rest)) p
+    ∙ (ap (λ z. map plain_entry es ++ entries_of z) (sym (reverse-append rest (m ∷ [])))
+    ∙ (ap (λ z. map plain_entry es ++ entries_of (reverse z)) (sym (l ∙ ap (λ z. rest ++ option_to_list z) s)) ∙ h)))))
+
+pub entries_end : (es : List CodeEntry) (all left rest : List Made) (o : Option Made) → map plain_entry es ++ entries_of (reverse left) ≡ entries_of all
+    → left ≡ rest ++ option_to_list o → o ≡ None → length left ≡ 0 → map plain_entry es ≡ entries_of all
+entries_end es all [] rest o h l s z = sym (append-nil (map plain_entry es)) ∙ h
+entries_end es all (m ∷ left) rest o h l s z = absurd (omega (arith, z))
+
+-- ---- what an outcome says
+
+pub at_contradiction : (rows : List Row) (limit : ℕ) (es : List Entry) (G : Type 0) (o : Outcome) → o ≡ out.Contradiction → Ends rows limit es G o → IsContradiction rows es
+at_contradiction rows limit es G o e h = subst (Ends rows limit es G) e h
+
+pub at_spent : (rows : List Row) (limit : ℕ) (es : List Entry) (G : Type 0) (o : Outcome) → o ≡ out.Spent → Ends rows limit es G o → IsSpent rows limit es
+at_spent rows limit es G o e h = subst (Ends rows limit es G) e h
+
+pub at_exceeds : (rows : List Row) (limit : ℕ) (es : List Entry) (G : Type 0) (o : Outcome) (i j : ℕ) → o ≡ out.Exceeds i j → Ends rows limit es G o → IsUnderWay rows limit es × AreExceedingRows (in_force rows es) i j
+at_exceeds rows limit es G o i j e h = subst (Ends rows limit es G) e h
+
+-- the number of a row in force is below 2^32
+pub small_number : (rows : List CodeRow) (limit : ℕ) (ms : List Made) (i : ℕ) (r : Row) → IsUnderWay (given rows) limit (entries_of ms) → slice_get (force rows ms) i ≡ Some r → i < 2 ^ 32
+small_number rows limit ms i r w e =
+    let a = slice_get_within (force rows ms) i r e in
+    let b = length_force rows ms in
+    let c = room rows limit ms w in
+    omega (arith, a, b, c)
+
+pub at_all : (rows : List Row) (cs : List ℕ) (p : Placing) (ps : Vec Place) → p ≡ pl.All ps → Places rows cs p → ArePlaced rows cs ps.items
+at_all rows cs p ps e h = subst (Places rows cs) e h
+
+pub at_stop : (rows : List Row) (cs : List ℕ) (p : Placing) (i : ℕ) (ps : Vec Place) → p ≡ pl.Exceeds i ps → Places rows cs p → StopsAt rows cs i ps.items
+at_stop rows cs p i ps e h = subst (Places rows cs) e h

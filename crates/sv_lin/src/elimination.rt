@@ -71,14 +71,18 @@ fn place(alloc: Global, rows: &[Row], work: Work, columns: &[usize]) -> Result<E
     requires complete { AreComplete (force rows.now work.made.items) }
     ensures { IfOk result (λ a. (limit : ℕ) → IsAnswer (given rows.now) limit a) }
 {
-    match place_columns(alloc, rows, &work, columns)? {
+    let placing = place_columns(alloc, rows, &work, columns)?;
+    match placing {
         Placing::All(places) => {
-            let point = listed(alloc, &places)?;
-            Ok(Eliminated::Point(entries(alloc, work)?, point))
+            let point = listed(alloc, places.as_slice())?;
+            let list = entries(alloc, work)?;
+            Ok(Eliminated::Point(list, point))
         }
         Placing::Exceeds(number, places) => {
-            let point = listed(alloc, &places)?;
-            Ok(Eliminated::Excess(entries(alloc, work)?, Excess::Value(number as u32, point)))
+            let item = number as u32;
+            let point = listed(alloc, places.as_slice())?;
+            let list = entries(alloc, work)?;
+            Ok(Eliminated::Excess(list, Excess::Value(item, point)))
         }
     }
 }
@@ -92,16 +96,26 @@ pub fn eliminate(alloc: Global, rows: &[Row], limit: u64) -> Result<Eliminated, 
 {
     let mut work = Work::new(alloc);
     if has_absurd(rows) {
-        return Ok(Eliminated::Contradiction(entries(alloc, work)?));
+        let list = entries(alloc, work)?;
+        return Ok(Eliminated::Contradiction(list));
     }
     let columns = columns(alloc, rows)?;
-    match eliminate_columns(alloc, rows, limit, &mut work, &columns)? {
-        Outcome::On => place(alloc, rows, work, &columns),
-        Outcome::Contradiction => Ok(Eliminated::Contradiction(entries(alloc, work)?)),
-        Outcome::Spent => Ok(Eliminated::Spent(entries(alloc, work)?)),
-        Outcome::Exceeds(i, j) => Ok(Eliminated::Excess(
-            entries(alloc, work)?,
-            Excess::Rows(i as u32, j as u32),
-        )),
+    let outcome = eliminate_columns(alloc, rows, limit, &mut work, columns.as_slice())?;
+    match outcome {
+        Outcome::On => place(alloc, rows, work, columns.as_slice()),
+        Outcome::Contradiction => {
+            let list = entries(alloc, work)?;
+            Ok(Eliminated::Contradiction(list))
+        }
+        Outcome::Spent => {
+            let list = entries(alloc, work)?;
+            Ok(Eliminated::Spent(list))
+        }
+        Outcome::Exceeds(i, j) => {
+            let first = i as u32;
+            let second = j as u32;
+            let list = entries(alloc, work)?;
+            Ok(Eliminated::Excess(list, Excess::Rows(first, second)))
+        }
     }
 }

@@ -4,14 +4,16 @@
 //! Stands on: `sv_lin`, `sv_cert`, `sv_term`, `sv_text`, `sqlite_items`, `anyhow`.
 #![tactic(auto)]
 
+mod check;
 mod print;
 mod read;
 
-use crate::print::{print_answer, print_combination, print_count};
+use crate::check::are_formed;
+use crate::print::{print_answer, print_count};
 use crate::read::row_of;
 use anyhow::Error;
 use sv_cert::Row;
-use sv_lin::{combine_rows, eliminate};
+use sv_lin::eliminate;
 
 fn main(rt: HostRuntime) -> anyhow::Result<()> {
     let mut rows: Vec<Row> = Vec::new(rt.alloc());
@@ -25,9 +27,6 @@ fn main(rt: HostRuntime) -> anyhow::Result<()> {
             rows.clear();
         } else if let Some(command) = text.strip_prefix("count ") {
             eliminate_rows(&rt, &rows, command, true)?;
-            rows.clear();
-        } else if text == "combine" {
-            combine_first(&rt, &rows)?;
             rows.clear();
         } else {
             println!(rt; "{text}")?;
@@ -43,7 +42,7 @@ fn eliminate_rows(
     counts: bool,
 ) -> Result<(), Error> {
     let limit = command.parse::<u64>().unwrap_or(1);
-    if limit < 1 || 200_000 < limit || rows.len() >= 1 << 31 {
+    if limit < 1 || 200_000 < limit || rows.len() >= 1 << 31 || !are_formed(rows) {
         return Ok(());
     }
     let answer = eliminate(rt.alloc(), rows, limit)?;
@@ -52,19 +51,4 @@ fn eliminate_rows(
     } else {
         print_answer(rt, &answer)
     }
-}
-
-/// Combines the first two rows.
-fn combine_first(rt: &HostRuntime, rows: &[Row]) -> Result<(), Error> {
-    if let [first, second, ..] = rows {
-        let made = combine_rows(
-            rt.alloc(),
-            first.constant,
-            first.parts.as_slice(),
-            second.constant,
-            second.parts.as_slice(),
-        )?;
-        print_combination(rt, &made)?;
-    }
-    Ok(())
 }

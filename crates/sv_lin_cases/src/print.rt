@@ -1,7 +1,7 @@
 use anyhow::Error;
 use sqlite_items::Items;
 use sv_cert::{Entry, Row};
-use sv_lin::{Combination, Eliminated, Excess};
+use sv_lin::{Eliminated, Excess};
 use sv_term::TermId;
 
 /// Prints the entries and what they come to.
@@ -39,17 +39,6 @@ pub fn print_count(rt: &HostRuntime, answer: &Eliminated) -> Result<(), Error> {
     Ok(())
 }
 
-pub fn print_combination(rt: &HostRuntime, made: &Option<Combination>) -> Result<(), Error> {
-    match made {
-        Some(made) => {
-            print!(rt; "{} {} {}", made.m, made.n, made.constant)?;
-            print_parts(rt, &made.parts)?;
-        }
-        None => println!(rt; "too large")?,
-    }
-    Ok(())
-}
-
 fn print_entries(rt: &HostRuntime, entries: &Items<Entry>) -> Result<(), Error> {
     for entry in entries.as_slice() {
         match entry {
@@ -68,11 +57,7 @@ fn print_entries(rt: &HostRuntime, entries: &Items<Entry>) -> Result<(), Error> 
 }
 
 fn print_row(rt: &HostRuntime, row: &Row) -> Result<(), Error> {
-    print_parts(rt, row.parts.as_slice())
-}
-
-fn print_parts(rt: &HostRuntime, parts: &[(i128, usize)]) -> Result<(), Error> {
-    for (factor, column) in parts {
+    for (factor, column) in row.parts.as_slice() {
         print!(rt; " {factor} {column}")?;
     }
     println!(rt; "")?;
