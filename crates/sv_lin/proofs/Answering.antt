@@ -1,12 +1,13 @@
 -- The start of an elimination, and its answers.
-use Rattle.std.proofs.Common.{ℕ, zero, suc, ◌+◌, ◌<◌, ◌≤◌, ◌^◌, ◌⊎◌, inl, inr, Bool, true, false, nat_eq, List, [], ◌∷◌, ◌++◌, map, length, reverse, ◌≡◌, refl, sym, ap, ap₂, ◌∙◌, subst, arith, append_assoc}
+use Rattle.std.proofs.Common.{ℕ, zero, suc, ◌+◌, ◌<◌, ◌≤◌, ◌^◌, ◌⊎◌, inl, inr, Bool, true, false, nat_eq, List, [], ◌∷◌, ◌++◌, map, length, take, get_or, reverse, ◌≡◌, refl, sym, ap, ap₂, ◌∙◌, subst, arith, append_assoc}
 use Rattle.std.proofs.lemmas.List.{append-nil, length-map, map-append, reverse-append, reverse-reverse}
 use Rattle.std.proofs.lemmas.List.Elements.{Contains-append_left, Contains-append_right, Contains-append_cases}
 use Rattle.std.proofs.lemmas.Bool.Decides.{Decides-eqb}
 use Rattle.std.proofs.lemmas.Option.{slice_get_within}
 use Rattle.std.specs.List.{Contains}
 use Rattle.std.specs.Option.{option_to_list}
-use Rattle.std.specs.Prelude.{Vec, Option, None, Some, slice_get, slice_index_or, ◌↔◌}
+use Rattle.std.specs.Global.{Vec}
+use Rattle.std.specs.Prelude.{Result, Ok, Err, IfOk, Option, None, Some, slice_get, slice_index_or, ◌↔◌}
 use lib.IntN.{ℤ, pos}
 use Rattle.sv_log.specs.LogEntries.{Monomial, Row, Entry, columns}
 use Rattle.sv_log.specs.LogRows.{monomial}
@@ -16,6 +17,13 @@ use Rattle.sv_point.specs.NearestPoints.{IsRowOf, IsMet, IsNearestAt}
 use Rattle.sv_lin.specs.Eliminations.{made, in_force, HaveNoAbsurd, AreEntriesOn, IsContradiction, Placed, value_in, IsColumnOf, AreFrom, ListsColumns, IsNearestIn, IsPoint, IsExcess, IsExceedingValue, AreFormed, IsSpent, AreExceedingRows}
 use Rattle.sv_lin.specs.Completeness.{AreComplete}
 use Rattle.sv_lin.specs.declared.place.Place.{Place}
+use Rattle.sv_term.specs.declared.node.TermId.{TermId}
+use Rattle.sv_lin.specs.EliminationAnswers.{placed_by, IsAnswer}
+use Rattle.sv_lin.specs.Assembling.{IsPointBy, IsValueBy, AreSmall, StopsWith}
+use Rattle.sv_lin.specs.declared.answer.Eliminated.{Eliminated}
+use Rattle.sv_lin.specs.declared.answer.Eliminated.TheVariants as an
+use Rattle.sv_lin.specs.declared.answer.Excess.TheVariants as ex
+use Rattle.sv_lin.proofs.ColumnLists.{take_all}
 use Rattle.sv_cert.specs.declared.log.Row.{Row as CodeRow}
 use Rattle.sv_cert.specs.declared.log.Entry.{Entry as CodeEntry}
 use Rattle.sv_cert.specs.PlainLogs.{plain_entry}
@@ -218,3 +226,73 @@ at_all rows cs p ps e h = subst (Places rows cs) e h
 
 pub at_stop : (rows : List Row) (cs : List ℕ) (p : Placing) (i : ℕ) (ps : Vec Place) → p ≡ pl.Exceeds i ps → Places rows cs p → StopsAt rows cs i ps.items
 at_stop rows cs p i ps e h = subst (Places rows cs) e h
+
+-- ---- answers put together
+
+pub point_answers : {E : Type 0} (r : Result Eliminated E) (rows : List Row) (es : List Entry) (ps : List Placed) → IfOk r (λ a. IsPointBy es ps a) → IsPoint rows es ps → IfOk r (λ a. (limit : ℕ) → IsAnswer rows limit a)
+point_answers (Err e) rows es ps h p = tt
+point_answers (Ok (an.Point fs qs)) rows es ps h p = λ limit. subst (λ z. IsPoint rows z (map placed_by qs)) (sym h.0) (subst (IsPoint rows es) (sym h.1) p)
+point_answers (Ok (an.Contradiction fs)) rows es ps h p = absurd h
+point_answers (Ok (an.Excess fs x)) rows es ps h p = absurd h
+point_answers (Ok (an.Spent fs)) rows es ps h p = absurd h
+
+pub value_answers : {E : Type 0} (r : Result Eliminated E) (rows : List Row) (es : List Entry) (i : ℕ) (ps : List Placed) → IfOk r (λ a. IsValueBy es i ps a) → IsExcess rows es → IsExceedingValue rows es i ps → IfOk r (λ a. (limit : ℕ) → IsAnswer rows limit a)
+value_answers (Err e) rows es i ps h x v = tt
+value_answers (Ok (an.Excess fs (ex.Value j qs))) rows es i ps h x v = λ limit. (
+  subst (IsExcess rows) (sym h.0) x,
+  subst (λ z. IsExceedingValue rows z j (map placed_by qs)) (sym h.0) (subst (λ z. IsExceedingValue rows es z (map placed_by qs)) (sym h.1) (subst (IsExceedingValue rows es i) (sym h.2) v)),
+)
+value_answers (Ok (an.Excess fs (ex.Rows j k))) rows es i ps h x v = absurd h
+value_answers (Ok (an.Contradiction fs)) rows es i ps h x v = absurd h
+value_answers (Ok (an.Point fs qs)) rows es i ps h x v = absurd h
+value_answers (Ok (an.Spent fs)) rows es i ps h x v = absurd h
+
+pub stop_answers : {E : Type 0} (r : Result Eliminated E) (rows : List Row) (limit : ℕ) (es : List Entry) (G : Type 0) (o : Outcome) → (o ≡ out.On → ⊥) → IfOk r (λ a. StopsWith es o a) → Ends rows limit es G o → IfOk r (λ a. IsAnswer rows limit a)
+stop_answers (Err e) rows limit es G o n h d = tt
+stop_answers (Ok a) rows limit es G o n h d = go o a n h d
+  where
+    go : (o : Outcome) (a : Eliminated) → (o ≡ out.On → ⊥) → StopsWith es o a → Ends rows limit es G o → IsAnswer rows limit a
+    go out.On a n h d = absurd (n refl)
+    go out.Contradiction (an.Contradiction fs) n h d = subst (IsContradiction rows) (sym h) d
+    go out.Contradiction (an.Point fs qs) n h d = absurd h
+    go out.Contradiction (an.Excess fs x) n h d = absurd h
+    go out.Contradiction (an.Spent fs) n h d = absurd h
+    go out.Spent (an.Spent fs) n h d = subst (IsSpent rows limit) (sym h) d
+    go out.Spent (an.Contradiction fs) n h d = absurd h
+    go out.Spent (an.Point fs qs) n h d = absurd h
+    go out.Spent (an.Excess fs x) n h d = absurd h
+    go (out.Exceeds i j) (an.Excess fs (ex.Rows k l)) n h d = (
+      subst (IsExcess rows) (sym h.0) (is_excess rows limit es d.0),
+      subst (λ z. AreExceedingRows (in_force rows z) k l) (sym h.0) (subst (λ z. AreExceedingRows (in_force rows es) z l) (sym h.1) (subst (AreExceedingRows (in_force rows es) i) (sym h.2) d.1)),
+    )
+    go (out.Exceeds i j) (an.Excess fs (ex.Value k qs)) n h d = absurd h
+    go (out.Exceeds i j) (an.Contradiction fs) n h d = absurd h
+    go (out.Exceeds i j) (an.Point fs qs) n h d = absurd h
+    go (out.Exceeds i j) (an.Spent fs) n h d = absurd h
+
+pub small_outcome : (rows : List CodeRow) (limit : ℕ) (ms : List Made) (G : Type 0) (o : Outcome) → Ends (given rows) limit (entries_of ms) G o → AreSmall o
+small_outcome rows limit ms G out.On d = tt
+small_outcome rows limit ms G out.Contradiction d = tt
+small_outcome rows limit ms G out.Spent d = tt
+small_outcome rows limit ms G (out.Exceeds i j) d = (small_number rows limit ms i d.1.first d.0 d.1.is_first, small_number rows limit ms j d.1.second d.0 d.1.is_second)
+
+same_item : {A : Type 0} (xs : List A) (i : ℕ) (a b : A) → i < length xs → get_or xs i a ≡ get_or xs i b
+same_item [] i a b l = absurd (omega (arith, l))
+same_item (x ∷ xs) zero a b l = refl
+same_item (x ∷ xs) (suc i) a b l = same_item xs i a b (omega (arith, l))
+
+map_more : {A B : Type 0} (f : A → B) (xs : List A) (i : ℕ) (d : A) → i < length xs → map f (take (i + 1) xs) ≡ map f (take i xs) ++ f (get_or xs i d) ∷ []
+map_more f [] i d l = absurd (omega (arith, l))
+map_more f (x ∷ xs) zero d l = refl
+map_more f (x ∷ xs) (suc i) d l = ap (λ n. map f (take n (x ∷ xs))) (shifted i) ∙ ap (λ z. f x ∷ z) (map_more f xs i d (omega (arith, l)))
+  where
+    shifted : (i : ℕ) → suc i + 1 ≡ suc (i + 1)
+    shifted i = omega arith
+
+pub listed_more : (list new : List (TermId × ℤ × ℤ)) (places : List Place) (i : ℕ) (d : Place) (t : TermId × ℤ × ℤ) → map placed_by list ≡ map placed (take i places) → new ≡ list ++ t ∷ [] → i < length places
+    → placed_by t ≡ placed (get_or places i d) → map placed_by new ≡ map placed (take (i + 1) places)
+listed_more list new places i d t h n l e =
+    ap (map placed_by) n ∙ (map-append placed_by list (t ∷ []) ∙ (ap₂ (λ x y. x ++ y ∷ []) h e ∙ sym (map_more placed places i d l)))
+
+pub listed_all : (list : List (TermId × ℤ × ℤ)) (places : List Place) (i : ℕ) → map placed_by list ≡ map placed (take i places) → length places ≤ i → map placed_by list ≡ map placed places
+listed_all list places i h l = h ∙ ap (map placed) (take_all places i l)

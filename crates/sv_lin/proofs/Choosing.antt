@@ -5,7 +5,7 @@ use Rattle.std.proofs.lemmas.List.Elements.{Contains-append_left, Contains-appen
 use Rattle.std.proofs.lemmas.Int.{ints}
 use Rattle.std.specs.List.{Contains}
 use Rattle.std.specs.Prelude.{Option, None, Some, slice_get, slice_index_or, MatchOption, Result, Ok, Err, MatchResult}
-use lib.IntN.{ℤ, pos}
+use lib.IntN.{ℤ, pos, ◌*ℤ◌}
 use lib.Signed.{◌≤ℤ◌, ◌<ℤ◌}
 use Rattle.sv_log.specs.LogEntries.{Row}
 use Rattle.sv_log.specs.LogRows.{monomial}

@@ -1,3 +1,4 @@
+pub mod Assembling
 pub mod CancellingRows
 pub mod Completeness
 pub mod EliminationAnswers

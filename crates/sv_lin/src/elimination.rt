@@ -5,6 +5,7 @@ ghost use Rattle.sv_lin.specs.EliminationAnswers.{placed_by, IsAnswer};
 ghost use Rattle.sv_lin.specs.Completeness.{AreComplete};
 ghost use Rattle.sv_lin.specs.UnderWay.{entry_made, entries_of, force, given, IsUnderWay, AreColumns, HasAbsurd};
 ghost use Rattle.sv_lin.specs.Placing.{placed};
+ghost use Rattle.sv_lin.specs.Assembling.{IsPointBy, IsValueBy, AreSmall, StopsWith};
 
 use crate::answer::{Eliminated, Excess};
 use crate::columns::columns;
@@ -41,13 +42,19 @@ fn entries(alloc: Global, work: Work) -> Result<Items<Entry>, NoMemory>
     Ok(Items::from_vec(entries))
 }
 
-/// The columns of the places with numerator and denominator.
+/// The column with numerator and denominator.
+fn triple(place: &Place) -> (TermId, i128, i128)
+    ensures { placed_by result ≡ placed place.now }
+{
+    (TermId(place.column), place.value.top(), place.value.under())
+}
+
 fn listed(alloc: Global, places: &[Place]) -> Result<Items<(TermId, i128, i128)>, NoMemory>
     ensures { IfOk result (λ ps. map placed_by ps ≡ map placed places.now) }
 {
     let mut list = Vec::new(alloc);
     for place in places {
-        list.push((TermId(place.column), place.value.top(), place.value.under()))?;
+        list.push(triple(place))?;
     }
     Ok(Items::from_vec(list))
 }
@@ -64,6 +71,47 @@ fn has_absurd(rows: &[Row]) -> bool
     false
 }
 
+fn with_point(alloc: Global, work: Work, places: &[Place]) -> Result<Eliminated, NoMemory>
+    ensures { IfOk result (λ a. IsPointBy (entries_of work.made.items) (map placed places.now) a) }
+{
+    let point = listed(alloc, places)?;
+    let list = entries(alloc, work)?;
+    Ok(Eliminated::Point(list, point))
+}
+
+fn with_value(
+    alloc: Global,
+    work: Work,
+    item: usize,
+    places: &[Place],
+) -> Result<Eliminated, NoMemory>
+    requires { item < 2 ^ 32 }
+    ensures { IfOk result (λ a. IsValueBy (entries_of work.made.items) item (map placed places.now) a) }
+{
+    let number = item as u32;
+    let point = listed(alloc, places)?;
+    let list = entries(alloc, work)?;
+    Ok(Eliminated::Excess(list, Excess::Value(number, point)))
+}
+
+/// The answer where elimination has ended before its columns did.
+fn stopped(alloc: Global, work: Work, outcome: Outcome) -> Result<Eliminated, NoMemory>
+    requires { AreSmall outcome }
+    ensures { IfOk result (λ a. StopsWith (entries_of work.made.items) outcome a) }
+{
+    let list = entries(alloc, work)?;
+    match outcome {
+        Outcome::On => Ok(Eliminated::Contradiction(list)),
+        Outcome::Contradiction => Ok(Eliminated::Contradiction(list)),
+        Outcome::Spent => Ok(Eliminated::Spent(list)),
+        Outcome::Exceeds(i, j) => {
+            let first = i as u32;
+            let second = j as u32;
+            Ok(Eliminated::Excess(list, Excess::Rows(first, second)))
+        }
+    }
+}
+
 /// The point of rows of which nothing more can be combined.
 fn place(alloc: Global, rows: &[Row], work: Work, columns: &[usize]) -> Result<Eliminated, NoMemory>
     requires way { (limit : ℕ) × IsUnderWay (given rows.now) limit (entries_of work.made.items) }
@@ -73,49 +121,27 @@ fn place(alloc: Global, rows: &[Row], work: Work, columns: &[usize]) -> Result<E
 {
     let placing = place_columns(alloc, rows, &work, columns)?;
     match placing {
-        Placing::All(places) => {
-            let point = listed(alloc, places.as_slice())?;
-            let list = entries(alloc, work)?;
-            Ok(Eliminated::Point(list, point))
-        }
-        Placing::Exceeds(number, places) => {
-            let item = number as u32;
-            let point = listed(alloc, places.as_slice())?;
-            let list = entries(alloc, work)?;
-            Ok(Eliminated::Excess(list, Excess::Value(item, point)))
-        }
+        Placing::All(places) => with_point(alloc, work, places.as_slice()),
+        Placing::Exceeds(number, places) => with_value(alloc, work, number, places.as_slice()),
     }
 }
 
-/// Eliminates the columns of the rows, from the greatest down. A limit is what the entries may cost.
+/// Eliminates the columns of the rows, from the greatest down. The limit is what the entries may cost.
 pub fn eliminate(alloc: Global, rows: &[Row], limit: u64) -> Result<Eliminated, NoMemory>
     requires few { length rows.now < 2 ^ 31 }
     requires formed { AreFormed (map plain_row rows.now) }
     requires limit { (1 ≤ limit) × (limit ≤ 200000) }
     ensures { IfOk result (λ a. IsAnswer (map plain_row rows.now) limit a) }
 {
-    let mut work = Work::new(alloc);
     if has_absurd(rows) {
-        let list = entries(alloc, work)?;
-        return Ok(Eliminated::Contradiction(list));
+        return Ok(Eliminated::Contradiction(Items::new(alloc)));
     }
+    let mut work = Work::new(alloc);
     let columns = columns(alloc, rows)?;
-    let outcome = eliminate_columns(alloc, rows, limit, &mut work, columns.as_slice())?;
+    let all = columns.as_slice();
+    let outcome = eliminate_columns(alloc, rows, limit, &mut work, all)?;
     match outcome {
-        Outcome::On => place(alloc, rows, work, columns.as_slice()),
-        Outcome::Contradiction => {
-            let list = entries(alloc, work)?;
-            Ok(Eliminated::Contradiction(list))
-        }
-        Outcome::Spent => {
-            let list = entries(alloc, work)?;
-            Ok(Eliminated::Spent(list))
-        }
-        Outcome::Exceeds(i, j) => {
-            let first = i as u32;
-            let second = j as u32;
-            let list = entries(alloc, work)?;
-            Ok(Eliminated::Excess(list, Excess::Rows(first, second)))
-        }
+        Outcome::On => place(alloc, rows, work, all),
+        outcome => stopped(alloc, work, outcome),
     }
 }

@@ -23,7 +23,13 @@ fn is_formed(parts: &[(i128, usize)]) -> bool
     match parts.split_first() {
         None => true,
         Some((&(factor, column), rest)) => {
-            factor != 0 && is_before(column, rest) && is_formed(rest)
+            if factor == 0 {
+                return false;
+            }
+            if !is_before(column, rest) {
+                return false;
+            }
+            is_formed(rest)
         }
     }
 }
@@ -34,6 +40,12 @@ fn is_before(column: usize, parts: &[(i128, usize)]) -> bool
 {
     match parts.split_first() {
         None => true,
-        Some((&(_factor, next), _rest)) => column < next,
+        Some((&(_factor, next), _rest)) => {
+            if column < next {
+                true
+            } else {
+                false
+            }
+        }
     }
 }

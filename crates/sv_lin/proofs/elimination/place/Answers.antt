@@ -1,11 +1,9 @@
 use Rattle.std.proofs.Common.{◌≡◌, map, sym, ap, ◌∙◌, subst, arith}
-use Rattle.sv_cert.specs.PlainLogs.{plain_entry}
-use Rattle.sv_lin.specs.Eliminations.{IsPoint, IsExcess, IsExceedingValue}
-use Rattle.sv_lin.specs.EliminationAnswers.{placed_by}
+use Rattle.sv_lin.specs.Eliminations.{IsPoint, IsExceedingValue}
 use Rattle.sv_lin.specs.UnderWay.{given, force, entries_of}
-use Rattle.sv_lin.specs.Placing.{placed, ArePlaced, StopsAt}
+use Rattle.sv_lin.specs.Placing.{placed}
 use Rattle.sv_lin.proofs.Forces.{room}
-use Rattle.sv_lin.proofs.Answering.{of_columns, is_point, exceeds_value, is_excess, small_number, at_all, at_stop}
+use Rattle.sv_lin.proofs.Answering.{of_columns, is_point, exceeds_value, is_excess, small_number, at_all, at_stop, point_answers, value_answers}
 use Rattle.sv_lin.proofs.elimination.place.Goals as goal
 
 pub place_columns-requires-clause-readable : goal.place_columns-requires-clause-readable
@@ -21,22 +19,21 @@ pub place_columns-requires-clause-within : goal.place_columns-requires-clause-wi
 place_columns-requires-clause-within c = of_columns (given c.args.rows.now) c.requires.way.0 (entries_of c.args.work.made.items) c.requires.way.1 c.args.columns.now c.requires.columns
 
 pub returns-in-All : goal.returns-in-All
-returns-in-All c limit =
+returns-in-All c =
     let p = at_all (force c.args.rows.now c.args.work.made.items) c.args.columns.now c.in_ok-placing.placing c.in-All.places c.in-All.is c.in_ok-placing.ensures in
-    let q = is_point (given c.args.rows.now) c.requires.way.0 (entries_of c.args.work.made.items) c.requires.way.1 c.args.columns.now c.requires.columns c.requires.complete c.in-All.places.items p in
-    subst (λ es. IsPoint (given c.args.rows.now) es (map placed_by c.in_ok-point.point)) (sym c.in_ok-list.ensures)
-    (subst (IsPoint (given c.args.rows.now) (entries_of c.args.work.made.items)) (sym (c.in_ok-point.ensures ∙ ap (map placed) c.as_slice.ensures.value)) q)
+    point_answers c.with_point.result (given c.args.rows.now) (entries_of c.args.work.made.items) (map placed c.as_slice.result.now) c.with_point.ensures
+    (subst (λ ps. IsPoint (given c.args.rows.now) (entries_of c.args.work.made.items) (map placed ps)) (sym c.as_slice.ensures.value)
+    (is_point (given c.args.rows.now) c.requires.way.0 (entries_of c.args.work.made.items) c.requires.way.1 c.args.columns.now c.requires.columns c.requires.complete c.in-All.places.items p))
 
-pub overflow_cast-item : goal.overflow_cast-item
-overflow_cast-item c =
+pub with_value-requires : goal.with_value-requires
+with_value-requires c =
     let s = at_stop (force c.args.rows.now c.args.work.made.items) c.args.columns.now c.in_ok-placing.placing c.in-Exceeds.number c.in-Exceeds.places c.in-Exceeds.is c.in_ok-placing.ensures in
     small_number c.args.rows.now c.requires.way.0 c.args.work.made.items c.in-Exceeds.number s.row c.requires.way.1 s.is
 
 pub returns-in-Exceeds : goal.returns-in-Exceeds
-returns-in-Exceeds c limit =
+returns-in-Exceeds c =
     let s = at_stop (force c.args.rows.now c.args.work.made.items) c.args.columns.now c.in_ok-placing.placing c.in-Exceeds.number c.in-Exceeds.places c.in-Exceeds.is c.in_ok-placing.ensures in
-    let v = exceeds_value (given c.args.rows.now) c.requires.way.0 (entries_of c.args.work.made.items) c.requires.way.1 c.args.columns.now c.requires.columns c.requires.complete c.in-Exceeds.places.items c.in-Exceeds.number s in (
-      subst (IsExcess (given c.args.rows.now)) (sym c.in_ok-list-in-Exceeds.ensures) (is_excess (given c.args.rows.now) c.requires.way.0 (entries_of c.args.work.made.items) c.requires.way.1),
-      subst (λ es. IsExceedingValue (given c.args.rows.now) es c.in-Exceeds.number (map placed_by c.in_ok-point-in-Exceeds.point)) (sym c.in_ok-list-in-Exceeds.ensures)
-          (subst (IsExceedingValue (given c.args.rows.now) (entries_of c.args.work.made.items) c.in-Exceeds.number) (sym (c.in_ok-point-in-Exceeds.ensures ∙ ap (map placed) c.as_slice-in-Exceeds.ensures.value)) v),
-    )
+    value_answers c.with_value.result (given c.args.rows.now) (entries_of c.args.work.made.items) c.in-Exceeds.number (map placed c.as_slice-in-Exceeds.result.now) c.with_value.ensures
+    (is_excess (given c.args.rows.now) c.requires.way.0 (entries_of c.args.work.made.items) c.requires.way.1)
+    (subst (λ ps. IsExceedingValue (given c.args.rows.now) (entries_of c.args.work.made.items) c.in-Exceeds.number (map placed ps)) (sym c.as_slice-in-Exceeds.ensures.value)
+    (exceeds_value (given c.args.rows.now) c.requires.way.0 (entries_of c.args.work.made.items) c.requires.way.1 c.args.columns.now c.requires.columns c.requires.complete c.in-Exceeds.places.items c.in-Exceeds.number s))

@@ -23,7 +23,7 @@ loop-column-preserved c =
     (subst (λ ps. IsFractionAt (force c.args.rows.now c.args.work.now.made.items) (point_of ps) x c.in-Ok.value) c.as_slice.ensures.value
     (at_ok c.in_ok-found.found (λ f. IsFractionAt (force c.args.rows.now c.args.work.now.made.items) (point_of c.as_slice.result.now) x f) (λ i. DoesExceed (force c.args.rows.now c.args.work.now.made.items) (point_of c.as_slice.result.now) x i) c.in-Ok.value c.in-Ok.is c.in_ok-found.ensures))
     c.push.new.self.items
-    (ap (λ ps. map placed ps) c.in_ok-push.ensures.items ∙ map-append placed c.loop-column.places.items (record { column = x; value = c.in-Ok.value } ∷ []))
+    (ap (λ ps. map placed ps) c.in_ok-push-in-Ok.ensures.items ∙ map-append placed c.loop-column.places.items (record { column = x; value = c.in-Ok.value } ∷ []))
 
 pub returns-in-Err : goal.returns-in-Err
 returns-in-Err c =

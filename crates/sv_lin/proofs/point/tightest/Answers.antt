@@ -37,7 +37,7 @@ returns-in-None c x h =
 
 pub loop-number-preserved : goal.loop-number-preserved
 loop-number-preserved c = record {
-  within = within_now c.args.side c.loop-number.best c.tighter.result c.in-Some.bound c.tighter.ensures;
+  within = within_now c.args.side c.loop-number.best c.tighter-best.result c.in-Some.bound c.tighter-best.ensures;
   tight = λ x h.
       let l : c.loop-number.number-index < length c.args.numbers.now = omega arith in
       let q = get_or c.args.numbers.now c.loop-number.number-index 0 in
@@ -45,7 +45,7 @@ loop-number-preserved c = record {
       let i = contains_at c.args.numbers.now c.loop-number.number-index q l s in
       tighter_now (force c.args.rows.now c.args.work.now.made.items) (point_of c.args.places.now) x c.args.side c.args.numbers.now c.loop-number.number-index q l s c.in-Some.bound
       (number_bound (force c.args.rows.now c.args.work.now.made.items) (point_of c.args.places.now) x q (plain_row c.row.result.now) c.bound_at.result c.in-Some.bound c.row.ensures c.in-Some.is c.bound_at.ensures (h q i))
-      c.loop-number.best c.tighter.result c.loop-number.invariant.within (c.loop-number.invariant.tight x h) c.tighter.ensures;
+      c.loop-number.best c.tighter-best.result c.loop-number.invariant.within (c.loop-number.invariant.tight x h) c.tighter-best.ensures;
 }
 
 pub returns : goal.returns
