@@ -40,12 +40,6 @@ fn is_before(column: usize, parts: &[(i128, usize)]) -> bool
 {
     match parts.split_first() {
         None => true,
-        Some((&(_factor, next), _rest)) => {
-            if column < next {
-                true
-            } else {
-                false
-            }
-        }
+        Some((&(_factor, next), _)) => column < next,
     }
 }
