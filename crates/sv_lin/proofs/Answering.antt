@@ -187,20 +187,19 @@ entries_begin es all left turned e f g =
     ap (λ z. map plain_entry z ++ entries_of (reverse turned)) e
     ∙ (ap (λ z. entries_of (reverse z)) g ∙ (ap entries_of (reverse-reverse left) ∙ ap entries_of f))
 
-pub entries_more : (es new : List CodeEntry) (all left rest : List Made) (o : Option Made) (m : Made) (e : CodeEntry) → map plain_entry es ++ entries_of (reverse left) ≡ entries_of all
-    → left ≡ rest ++ option_to_list o → o ≡ Some m → new ≡ es ++ e ∷ [] → plain_entry e ≡ entry_made m → map plain_entry new ++ entries_of (reverse rest) ≡ entries_of all
-entries_more es new all left rest o m e h l s n p =
+pub entries_more : (es new : List CodeEntry) (all left rest : List Made) (m : Made) (e : CodeEntry) → map plain_entry es ++ entries_of (reverse left) ≡ entries_of all
+    → left ≡ rest ++ m ∷ [] → new ≡ es ++ e ∷ [] → plain_entry e ≡ entry_made m → map plain_entry new ++ entries_of (reverse rest) ≡ entries_of all
+entries_more es new all left rest m e h l n p =
     ap (λ z. map plain_entry z ++ entries_of (reverse rest)) n
     ∙ (ap (λ z. z ++ entries_of (reverse rest)) (map-append plain_entry es (e ∷ []))
     ∙ (append_assoc (map plain_entry es) (plain_entry e ∷ []) (entries_of (reverse rest))
     ∙ (ap (λ z. map plain_entry es ++ z ∷ entries_of (reverse rest)) p
     ∙ (ap (λ z. map plain_entry es ++ entries_of z) (sym (reverse-append rest (m ∷ [])))
-    ∙ (ap (λ z. map plain_entry es ++ entries_of (reverse z)) (sym (l ∙ ap (λ z. rest ++ option_to_list z) s)) ∙ h)))))
+    ∙ (ap (λ z. map plain_entry es ++ entries_of (reverse z)) (sym l) ∙ h)))))
 
-pub entries_end : (es : List CodeEntry) (all left rest : List Made) (o : Option Made) → map plain_entry es ++ entries_of (reverse left) ≡ entries_of all
-    → left ≡ rest ++ option_to_list o → o ≡ None → length left ≡ 0 → map plain_entry es ≡ entries_of all
-entries_end es all [] rest o h l s z = sym (append-nil (map plain_entry es)) ∙ h
-entries_end es all (m ∷ left) rest o h l s z = absurd (omega (arith, z))
+pub entries_end : (es : List CodeEntry) (all left : List Made) → map plain_entry es ++ entries_of (reverse left) ≡ entries_of all → length left ≡ 0 → map plain_entry es ≡ entries_of all
+entries_end es all [] h z = sym (append-nil (map plain_entry es)) ∙ h
+entries_end es all (m ∷ left) h z = absurd (omega (arith, z))
 
 -- ---- what an outcome says
 
@@ -276,11 +275,6 @@ small_outcome rows limit ms G out.Contradiction d = tt
 small_outcome rows limit ms G out.Spent d = tt
 small_outcome rows limit ms G (out.Exceeds i j) d = (small_number rows limit ms i d.1.first d.0 d.1.is_first, small_number rows limit ms j d.1.second d.0 d.1.is_second)
 
-same_item : {A : Type 0} (xs : List A) (i : ℕ) (a b : A) → i < length xs → get_or xs i a ≡ get_or xs i b
-same_item [] i a b l = absurd (omega (arith, l))
-same_item (x ∷ xs) zero a b l = refl
-same_item (x ∷ xs) (suc i) a b l = same_item xs i a b (omega (arith, l))
-
 map_more : {A B : Type 0} (f : A → B) (xs : List A) (i : ℕ) (d : A) → i < length xs → map f (take (i + 1) xs) ≡ map f (take i xs) ++ f (get_or xs i d) ∷ []
 map_more f [] i d l = absurd (omega (arith, l))
 map_more f (x ∷ xs) zero d l = refl
@@ -290,9 +284,9 @@ map_more f (x ∷ xs) (suc i) d l = ap (λ n. map f (take n (x ∷ xs))) (shifte
     shifted i = omega arith
 
 pub listed_more : (list new : List (TermId × ℤ × ℤ)) (places : List Place) (i : ℕ) (d : Place) (t : TermId × ℤ × ℤ) → map placed_by list ≡ map placed (take i places) → new ≡ list ++ t ∷ [] → i < length places
-    → placed_by t ≡ placed (get_or places i d) → map placed_by new ≡ map placed (take (i + 1) places)
-listed_more list new places i d t h n l e =
-    ap (map placed_by) n ∙ (map-append placed_by list (t ∷ []) ∙ (ap₂ (λ x y. x ++ y ∷ []) h e ∙ sym (map_more placed places i d l)))
+    → d ≡ get_or places i d → placed_by t ≡ placed d → map placed_by new ≡ map placed (take (i + 1) places)
+listed_more list new places i d t h n l g e =
+    ap (map placed_by) n ∙ (map-append placed_by list (t ∷ []) ∙ (ap₂ (λ x y. x ++ y ∷ []) h (e ∙ ap placed g) ∙ sym (map_more placed places i d l)))
 
 pub listed_all : (list : List (TermId × ℤ × ℤ)) (places : List Place) (i : ℕ) → map placed_by list ≡ map placed (take i places) → length places ≤ i → map placed_by list ≡ map placed places
 listed_all list places i h l = h ∙ ap (map placed) (take_all places i l)

@@ -7,6 +7,11 @@ use Rattle.sv_lin.specs.EliminationAnswers.{placed_by}
 use Rattle.sv_lin.specs.declared.answer.Eliminated.{Eliminated}
 use Rattle.sv_lin.specs.declared.answer.Eliminated.TheVariants as a
 use Rattle.sv_lin.specs.declared.answer.Excess.TheVariants as e
+use Rattle.sv_cert.specs.declared.log.Row.{Row as CodeRow}
+use Rattle.sv_lin.specs.declared.work.Work.{Work}
+use Rattle.sv_lin.specs.Completeness.{AreComplete}
+use Rattle.sv_lin.specs.UnderWay.{given, AreColumns}
+use Rattle.sv_lin.specs.Holding.{held, IsOn}
 use Rattle.sv_lin.specs.declared.made.Outcome.{Outcome}
 use Rattle.sv_lin.specs.declared.made.Outcome.TheVariants as out
 
@@ -30,3 +35,10 @@ StopsWith es out.Spent answer = ⊥
 StopsWith es (out.Exceeds i j) (a.Excess fs (e.Rows k l)) = (map plain_entry fs ≡ es) × (k ≡ i) × (l ≡ j)
 StopsWith es (out.Exceeds i j) answer = ⊥
 StopsWith es out.On answer = Unit {0}
+
+-- nothing more can be combined
+pub record IsSaturated (rows : List CodeRow) (cs : List ℕ) (work : Work) : Type 0 where
+  pub limit : ℕ
+  pub way : IsOn rows limit work
+  pub columns : AreColumns (given rows) cs
+  pub complete : AreComplete (held rows work)

@@ -3,6 +3,7 @@ pub mod CancellingRows
 pub mod Completeness
 pub mod EliminationAnswers
 pub mod Eliminations
+pub mod Holding
 pub mod Placing
 pub mod Renumbering
 pub mod UnderWay

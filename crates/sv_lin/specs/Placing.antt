@@ -1,12 +1,15 @@
 -- Serves the proof: places of columns, the bounds that a side sets, and the fraction that is chosen between two.
-use Rattle.std.specs.Prelude.{ℕ, ◌<◌, List, [], ◌∷◌, ◌++◌, map, length, ◌≡◌, ◌⊎◌, ℤ, pos, ◌<ℤ◌, ◌≤ℤ◌, Some, slice_get}
+use Rattle.std.specs.Prelude.{ℕ, ◌<◌, List, [], ◌∷◌, ◌++◌, map, length, ◌≡◌, ◌⊎◌, ℤ, pos, ◌<ℤ◌, ◌≤ℤ◌, Some, slice_get, Result, MatchResult}
 use Rattle.std.specs.List.{Contains}
 use Rattle.sv_log.specs.LogEntries.{Row}
 use Rattle.sv_fraction.specs.Fractions.{Ratio, ratio, IsReduced}
 use Rattle.sv_point.specs.NearestPoints.{IsRowOf, IsAtMost, IsNearestAt}
 use Rattle.sv_point.specs.PointLaws.{IsBoundOf}
 use Rattle.sv_lin.specs.Eliminations.{Placed, value_in, ExceedsRow}
-use Rattle.sv_lin.specs.UnderWay.{EachColumn, AreSides}
+use Rattle.sv_cert.specs.declared.log.Row.{Row as CodeRow}
+use Rattle.sv_lin.specs.declared.work.Work.{Work}
+use Rattle.sv_lin.specs.UnderWay.{EachColumn, AreSides, AreReadable}
+use Rattle.sv_lin.specs.Holding.{held}
 use Rattle.sv_lin.specs.declared.place.Place.{Place}
 use Rattle.sv_lin.specs.declared.point.Limit.{Limit}
 use Rattle.sv_lin.specs.declared.point.Limit.TheVariants as l
@@ -119,3 +122,18 @@ Places rows cs (p.Exceeds i ps) = StopsAt rows cs i ps.items
 -- each column of the rows is one of these
 abbrev pub AreOfColumns : List Row → List ℕ → Type 0
 AreOfColumns rows cs = (r : Row) → Contains rows r → EachColumn (Contains cs) r.parts
+
+-- ---- the same of what the code holds
+
+abbrev pub CanBePlaced : List CodeRow → Work → List Place → Type 0
+CanBePlaced rows work places = AreReadable rows work.made.items × AreReduced (point_of places)
+
+abbrev pub AreNumbersOf : List CodeRow → Work → ℕ → List ℕ → Type 0
+AreNumbersOf rows work x ps = (p : ℕ) → Contains ps p → IsAt (held rows work) x p
+
+-- the tightest of the bounds that the rows of these numbers set to their column
+abbrev pub Tightest : List CodeRow → Work → List Place → Side → List ℕ → Limit → Type 0
+Tightest rows work places side ps best = (x : ℕ) → AreNumbersOf rows work x ps → IsTightest (held rows work) (point_of places) x side ps best
+
+abbrev pub IsFound : List Row → (ℕ → Ratio) → ℕ → Result Ratio ℕ → Type 0
+IsFound rows at x found = MatchResult found (λ f. IsFractionAt rows at x f) (λ i. DoesExceed rows at x i)

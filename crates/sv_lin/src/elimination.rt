@@ -2,10 +2,9 @@ ghost use Rattle.std.specs.Prelude.{◌≡◌, ◌<◌, ◌≤◌, ◌^◌, ℕ,
 ghost use Rattle.sv_cert.specs.PlainLogs.{plain_entry, plain_row};
 ghost use Rattle.sv_lin.specs.Eliminations.{AreFormed, HaveNoAbsurd};
 ghost use Rattle.sv_lin.specs.EliminationAnswers.{placed_by, IsAnswer};
-ghost use Rattle.sv_lin.specs.Completeness.{AreComplete};
-ghost use Rattle.sv_lin.specs.UnderWay.{entry_made, entries_of, force, given, IsUnderWay, AreColumns, HasAbsurd};
+ghost use Rattle.sv_lin.specs.UnderWay.{entry_made, entries_of, given, HasAbsurd};
 ghost use Rattle.sv_lin.specs.Placing.{placed};
-ghost use Rattle.sv_lin.specs.Assembling.{IsPointBy, IsValueBy, AreSmall, StopsWith};
+ghost use Rattle.sv_lin.specs.Assembling.{IsSaturated, IsPointBy, IsValueBy, AreSmall, StopsWith};
 
 use crate::answer::{Eliminated, Excess};
 use crate::columns::columns;
@@ -86,7 +85,7 @@ fn with_value(
     places: &[Place],
 ) -> Result<Eliminated, NoMemory>
     requires { item < 2 ^ 32 }
-    ensures { IfOk result (λ a. IsValueBy (entries_of work.made.items) item (map placed places.now) a) }
+    ensures { IfOk result (IsValueBy (entries_of work.made.items) item (map placed places.now)) }
 {
     let number = item as u32;
     let point = listed(alloc, places)?;
@@ -114,9 +113,7 @@ fn stopped(alloc: Global, work: Work, outcome: Outcome) -> Result<Eliminated, No
 
 /// The point of rows of which nothing more can be combined.
 fn place(alloc: Global, rows: &[Row], work: Work, columns: &[usize]) -> Result<Eliminated, NoMemory>
-    requires way { (limit : ℕ) × IsUnderWay (given rows.now) limit (entries_of work.made.items) }
-    requires columns { AreColumns (given rows.now) columns.now }
-    requires complete { AreComplete (force rows.now work.made.items) }
+    requires { IsSaturated rows.now columns.now work }
     ensures { IfOk result (λ a. (limit : ℕ) → IsAnswer (given rows.now) limit a) }
 {
     let placing = place_columns(alloc, rows, &work, columns)?;

@@ -4,7 +4,8 @@ ghost use Rattle.sv_lin.specs.Eliminations.{HaveNoAbsurd};
 ghost use Rattle.sv_lin.specs.Completeness.{AreComplete};
 ghost use Rattle.sv_lin.specs.declared.point.Limit.TheVariants.{At, Exceeds};
 ghost use Rattle.sv_lin.specs.UnderWay.{force, AreReadable, RiseFrom};
-ghost use Rattle.sv_lin.specs.Placing.{point_of, AreReduced, AreOfColumns, IsAt, IsTightest, Tightens, IsNotAbove, IsNotBelow, Chooses, IsWithin, IsFractionAt, DoesExceed, Places};
+ghost use Rattle.sv_lin.specs.Holding.{held};
+ghost use Rattle.sv_lin.specs.Placing.{point_of, AreOfColumns, CanBePlaced, AreNumbersOf, Tightest, Tightens, IsNotAbove, IsNotBelow, Chooses, IsWithin, IsFound, Places};
 
 use crate::place::{Place, bound_at};
 use crate::sides::sides_of;
@@ -51,11 +52,9 @@ fn tighter(side: Side, best: Limit, bound: Fraction) -> Limit
 
 /// The least of upper bounds, or the greatest of lower ones.
 fn tightest(rows: &[Row], work: &Work, places: &[Place], side: Side, numbers: &[usize]) -> Limit
-    requires readable { AreReadable rows.now work.now.made.items }
-    requires reduced { AreReduced (point_of places.now) }
-    requires there { (x : ℕ) × ((p : ℕ) → Contains numbers.now p → IsAt (force rows.now work.now.made.items) x p) }
-    ensures { (x : ℕ) → ((p : ℕ) → Contains numbers.now p → IsAt (force rows.now work.now.made.items) x p)
-        → IsTightest (force rows.now work.now.made.items) (point_of places.now) x side numbers.now result }
+    requires placed { CanBePlaced rows.now work.now places.now }
+    requires there { (x : ℕ) × AreNumbersOf rows.now work.now x numbers.now }
+    ensures { Tightest rows.now work.now places.now side numbers.now result }
 {
     let mut best = Limit::Unlimited;
     for &number in numbers {
@@ -122,11 +121,8 @@ fn fraction_at(
     places: &[Place],
     column: usize,
 ) -> Result<Result<Fraction, usize>, NoMemory>
-    requires readable { AreReadable rows.now work.now.made.items }
-    requires reduced { AreReduced (point_of places.now) }
-    ensures { IfOk result (λ found. MatchResult found
-        (λ f. IsFractionAt (force rows.now work.now.made.items) (point_of places.now) column f)
-        (λ i. DoesExceed (force rows.now work.now.made.items) (point_of places.now) column i)) }
+    requires { CanBePlaced rows.now work.now places.now }
+    ensures { IfOk result (IsFound (held rows.now work.now) (point_of places.now) column) }
 {
     let sides = sides_of(alloc, rows, work, column)?;
     let upper = tightest(rows, work, places, Side::Upper, sides.uppers.as_slice());

@@ -1,8 +1,8 @@
-ghost use Rattle.std.specs.Prelude.{◌≡◌, ◌<◌, ◌≤ℤ◌, ◌∷◌, [], ℕ, pos, length, unsigned_abs, IfOk, IfSome, MatchOption};
+ghost use Rattle.std.specs.Prelude.{◌<◌, ◌≤ℤ◌, ◌∷◌, [], pos, length, unsigned_abs, IfOk, IfSome};
 ghost use Rattle.sv_row.specs.RowParts.{monomials, Divides};
-ghost use Rattle.sv_lin.specs.Eliminations.{AreFormed, AreExceedingRows};
-ghost use Rattle.sv_lin.specs.Completeness.{AreCompleteAt, AreComplete};
-ghost use Rattle.sv_lin.specs.UnderWay.{entries_of, row_made, force, given, IsUnderWay, Ends, GrowsUnder, GrowsBelow, ArePairs, CombinesPairs, AreColumns, IsQuotient, IsSum, CanBeMade, Enters, AreAllPairs, CombinesAll};
+ghost use Rattle.sv_lin.specs.Eliminations.{AreFormed};
+ghost use Rattle.sv_lin.specs.UnderWay.{row_made, given, GrowsUnder, CombinesPairs, CombinesAll, AreColumns, IsQuotient, CanBeMade};
+ghost use Rattle.sv_lin.specs.Holding.{held, IsOn, Leaves, ArePairsOf, AreAllPairsOf, IsCombination, EntersRow, CompletesColumn, CompletesAll};
 
 use crate::made::{Made, Origin, Outcome};
 use crate::sides::sides_of;
@@ -34,9 +34,8 @@ fn quotient(
     work: &Work,
     number: usize,
 ) -> Result<Option<Made>, NoMemory>
-    requires { number < length (force rows.now work.now.made.items) }
-    ensures { IfOk result
-        (λ q. IfSome q (λ m. IsQuotient (force rows.now work.now.made.items) number m)) }
+    requires { number < length (held rows.now work.now) }
+    ensures { IfOk result (λ q. IfSome q (λ m. IsQuotient (held rows.now work.now) number m)) }
 {
     let row = work.row(rows, number);
     let Some(by) = divisor_of(row.parts.as_slice()) else {
@@ -61,11 +60,9 @@ fn combination(
     upper: usize,
     lower: usize,
 ) -> Result<Option<Made>, NoMemory>
-    requires formed { AreFormed (force rows.now work.now.made.items) }
-    requires pair { (x : ℕ) × ArePairs (force rows.now work.now.made.items) x upper (lower ∷ []) }
-    ensures { IfOk result
-        (λ s. MatchOption s (AreExceedingRows (force rows.now work.now.made.items) upper lower)
-        (λ m. IsSum (force rows.now work.now.made.items) upper lower m)) }
+    requires formed { AreFormed (held rows.now work.now) }
+    requires pair { ArePairsOf rows.now work.now upper (lower ∷ []) }
+    ensures { IfOk result (λ o. IsCombination (held rows.now work.now) upper lower o) }
 {
     let first = work.row(rows, upper);
     let second = work.row(rows, lower);
@@ -90,10 +87,9 @@ fn combination(
 
 /// Adds the row, unless it is in force.
 fn enter(rows: &[Row], limit: u64, work: &mut Work, made: Made) -> Result<Outcome, NoMemory>
-    requires way { IsUnderWay (given rows.now) limit (entries_of work.old.made.items) }
-    requires sound { CanBeMade (force rows.now work.old.made.items) made }
-    ensures { IfOk result (λ o. Ends (given rows.now) limit (entries_of work.new.made.items)
-        (Enters (force rows.now work.old.made.items) (row_made made) (force rows.now work.new.made.items)) o) }
+    requires way { IsOn rows.now limit work.old }
+    requires sound { CanBeMade (held rows.now work.old) made }
+    ensures { IfOk result (λ o. Leaves rows.now limit work.old work.new (EntersRow (row_made made)) o) }
 {
     if work.holds(rows, &made.row) {
         return Ok(Outcome::On);
@@ -110,10 +106,9 @@ fn divide(
     work: &mut Work,
     number: usize,
 ) -> Result<Outcome, NoMemory>
-    requires way { IsUnderWay (given rows.now) limit (entries_of work.old.made.items) }
-    requires there { number < length (force rows.now work.old.made.items) }
-    ensures { IfOk result (λ o. Ends (given rows.now) limit (entries_of work.new.made.items)
-        (GrowsUnder number (force rows.now work.old.made.items) (force rows.now work.new.made.items)) o) }
+    requires way { IsOn rows.now limit work.old }
+    requires there { number < length (held rows.now work.old) }
+    ensures { IfOk result (λ o. Leaves rows.now limit work.old work.new (GrowsUnder number) o) }
 {
     let made = quotient(alloc, rows, work, number)?;
     match made {
@@ -131,11 +126,9 @@ fn combine(
     upper: usize,
     lower: usize,
 ) -> Result<Outcome, NoMemory>
-    requires way { IsUnderWay (given rows.now) limit (entries_of work.old.made.items) }
-    requires pair { (x : ℕ) × ArePairs (force rows.now work.old.made.items) x upper (lower ∷ []) }
-    ensures { IfOk result (λ o. Ends (given rows.now) limit (entries_of work.new.made.items)
-        (CombinesPairs upper (lower ∷ [])
-        (force rows.now work.old.made.items) (force rows.now work.new.made.items)) o) }
+    requires way { IsOn rows.now limit work.old }
+    requires pair { ArePairsOf rows.now work.old upper (lower ∷ []) }
+    ensures { IfOk result (Leaves rows.now limit work.old work.new (CombinesPairs upper (lower ∷ []))) }
 {
     let made = combination(alloc, rows, work, upper, lower)?;
     let Some(made) = made else {
@@ -163,11 +156,9 @@ fn combine_with_lowers(
     upper: usize,
     lowers: &[usize],
 ) -> Result<Outcome, NoMemory>
-    requires way { IsUnderWay (given rows.now) limit (entries_of work.old.made.items) }
-    requires pairs { (x : ℕ) × ArePairs (force rows.now work.old.made.items) x upper lowers.now }
-    ensures { IfOk result (λ o. Ends (given rows.now) limit (entries_of work.new.made.items)
-        (CombinesPairs upper lowers.now
-        (force rows.now work.old.made.items) (force rows.now work.new.made.items)) o) }
+    requires way { IsOn rows.now limit work.old }
+    requires pairs { ArePairsOf rows.now work.old upper lowers.now }
+    ensures { IfOk result (Leaves rows.now limit work.old work.new (CombinesPairs upper lowers.now)) }
 {
     for &lower in lowers {
         match combine(alloc, rows, limit, work, upper, lower)? {
@@ -186,11 +177,9 @@ fn combine_sides(
     uppers: &[usize],
     lowers: &[usize],
 ) -> Result<Outcome, NoMemory>
-    requires way { IsUnderWay (given rows.now) limit (entries_of work.old.made.items) }
-    requires pairs { (x : ℕ) × AreAllPairs (force rows.now work.old.made.items) x uppers.now lowers.now }
-    ensures { IfOk result (λ o. Ends (given rows.now) limit (entries_of work.new.made.items)
-        (CombinesAll uppers.now lowers.now
-        (force rows.now work.old.made.items) (force rows.now work.new.made.items)) o) }
+    requires way { IsOn rows.now limit work.old }
+    requires pairs { AreAllPairsOf rows.now work.old uppers.now lowers.now }
+    ensures { IfOk result (Leaves rows.now limit work.old work.new (CombinesAll uppers.now lowers.now)) }
 {
     for &upper in uppers {
         match combine_with_lowers(alloc, rows, limit, work, upper, lowers)? {
@@ -209,10 +198,8 @@ fn eliminate_column(
     work: &mut Work,
     column: usize,
 ) -> Result<Outcome, NoMemory>
-    requires { IsUnderWay (given rows.now) limit (entries_of work.old.made.items) }
-    ensures { IfOk result (λ o. Ends (given rows.now) limit (entries_of work.new.made.items)
-        (GrowsBelow column (force rows.now work.old.made.items) (force rows.now work.new.made.items)
-        × AreCompleteAt (force rows.now work.new.made.items) column) o) }
+    requires { IsOn rows.now limit work.old }
+    ensures { IfOk result (λ o. Leaves rows.now limit work.old work.new (CompletesColumn column) o) }
 {
     let sides = sides_of(alloc, rows, work, column)?;
     combine_sides(
@@ -231,9 +218,8 @@ fn divide_given(
     limit: u64,
     work: &mut Work,
 ) -> Result<Outcome, NoMemory>
-    requires { IsUnderWay (given rows.now) limit (entries_of work.old.made.items) }
-    ensures { IfOk result
-        (λ o. Ends (given rows.now) limit (entries_of work.new.made.items) (Unit {0}) o) }
+    requires { IsOn rows.now limit work.old }
+    ensures { IfOk result (λ o. Leaves rows.now limit work.old work.new (λ old new. Unit {0}) o) }
 {
     for number in 0..rows.len() {
         match divide(alloc, rows, limit, work, number)? {
@@ -251,10 +237,9 @@ fn eliminate_from(
     work: &mut Work,
     columns: &[usize],
 ) -> Result<Outcome, NoMemory>
-    requires way { IsUnderWay (given rows.now) limit (entries_of work.old.made.items) }
+    requires way { IsOn rows.now limit work.old }
     requires columns { AreColumns (given rows.now) columns.now }
-    ensures { IfOk result (λ o. Ends (given rows.now) limit (entries_of work.new.made.items)
-        (AreComplete (force rows.now work.new.made.items)) o) }
+    ensures { IfOk result (λ o. Leaves rows.now limit work.old work.new CompletesAll o) }
 {
     let mut left = columns;
     while let Some((&column, rest)) = left.split_last() {
@@ -275,10 +260,9 @@ pub fn eliminate_columns(
     work: &mut Work,
     columns: &[usize],
 ) -> Result<Outcome, NoMemory>
-    requires way { IsUnderWay (given rows.now) limit (entries_of work.old.made.items) }
+    requires way { IsOn rows.now limit work.old }
     requires columns { AreColumns (given rows.now) columns.now }
-    ensures { IfOk result (λ o. Ends (given rows.now) limit (entries_of work.new.made.items)
-        (AreComplete (force rows.now work.new.made.items)) o) }
+    ensures { IfOk result (λ o. Leaves rows.now limit work.old work.new CompletesAll o) }
 {
     match divide_given(alloc, rows, limit, work)? {
         Outcome::On => eliminate_from(alloc, rows, limit, work, columns),

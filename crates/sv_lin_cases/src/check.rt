@@ -36,7 +36,8 @@ fn is_formed(parts: &[(i128, usize)]) -> bool
 
 /// Whether the column is below the first of the parts.
 fn is_before(column: usize, parts: &[(i128, usize)]) -> bool
-    ensures { IsTrue result → AreRising (monomials parts.now) → AreAbove column (monomials parts.now) }
+    ensures { IsTrue result → AreRising (monomials parts.now)
+        → AreAbove column (monomials parts.now) }
 {
     match parts.split_first() {
         None => true,

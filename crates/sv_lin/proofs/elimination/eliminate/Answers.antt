@@ -22,16 +22,14 @@ eliminate_columns-requires-clause-way c =
 pub eliminate_columns-requires-clause-columns : goal.eliminate_columns-requires-clause-columns
 eliminate_columns-requires-clause-columns c = subst (AreColumns (given c.args.rows.now)) (sym c.as_slice-all.ensures.value) c.in_ok-columns.ensures
 
-pub place-requires-clause-way : goal.place-requires-clause-way
-place-requires-clause-way c =
-    (c.args.limit, (at_on (given c.args.rows.now) c.args.limit (entries_of c.eliminate_columns.new.work.made.items) (AreComplete (force c.args.rows.now c.eliminate_columns.new.work.made.items)) c.in_ok-outcome.outcome c.in-On.is c.in_ok-outcome.ensures).0)
-
-pub place-requires-clause-columns : goal.place-requires-clause-columns
-place-requires-clause-columns c = subst (AreColumns (given c.args.rows.now)) (sym c.as_slice-all.ensures.value) c.in_ok-columns.ensures
-
-pub place-requires-clause-complete : goal.place-requires-clause-complete
-place-requires-clause-complete c =
-    (at_on (given c.args.rows.now) c.args.limit (entries_of c.eliminate_columns.new.work.made.items) (AreComplete (force c.args.rows.now c.eliminate_columns.new.work.made.items)) c.in_ok-outcome.outcome c.in-On.is c.in_ok-outcome.ensures).1
+pub place-requires : goal.place-requires
+place-requires c =
+    let w = at_on (given c.args.rows.now) c.args.limit (entries_of c.eliminate_columns.new.work.made.items) (AreComplete (force c.args.rows.now c.eliminate_columns.new.work.made.items)) c.in_ok-outcome.outcome c.in-On.is c.in_ok-outcome.ensures in record {
+      limit = c.args.limit;
+      way = w.0;
+      columns = subst (AreColumns (given c.args.rows.now)) (sym c.as_slice-all.ensures.value) c.in_ok-columns.ensures;
+      complete = w.1;
+    }
 
 pub returns-in-On : goal.returns-in-On
 returns-in-On c = if_ok c.place.result _ (λ a. IsAnswer (given c.args.rows.now) c.args.limit a) (λ a h. h c.args.limit) c.place.ensures
@@ -39,7 +37,7 @@ returns-in-On c = if_ok c.place.result _ (λ a. IsAnswer (given c.args.rows.now)
 pub stopped-requires : goal.stopped-requires
 stopped-requires c = small_outcome c.args.rows.now c.args.limit c.eliminate_columns.new.work.made.items (AreComplete (force c.args.rows.now c.eliminate_columns.new.work.made.items)) c.in_ok-outcome.outcome c.in_ok-outcome.ensures
 
-pub returns-in_default : goal.returns-in_default
-returns-in_default c =
+pub returns : goal.returns
+returns c =
     stop_answers c.stopped.result (given c.args.rows.now) c.args.limit (entries_of c.eliminate_columns.new.work.made.items) (AreComplete (force c.args.rows.now c.eliminate_columns.new.work.made.items)) c.in_ok-outcome.outcome c.in_default.not-On
     c.stopped.ensures c.in_ok-outcome.ensures

@@ -11,8 +11,8 @@ use Rattle.sv_lin.proofs.point.place_columns.Goals as goal
 pub loop-column-init : goal.loop-column-init
 loop-column-init c = subst (ArePlaced (force c.args.rows.now c.args.work.now.made.items) _) (sym c.new-places.ensures.items) (nothing_placed (force c.args.rows.now c.args.work.now.made.items) c.args.columns.now)
 
-pub fraction_at-requires-clause-reduced : goal.fraction_at-requires-clause-reduced
-fraction_at-requires-clause-reduced c = subst (λ ps. AreReduced (point_of ps)) (sym c.as_slice.ensures.value) c.loop-column.invariant.reduced
+pub fraction_at-requires : goal.fraction_at-requires
+fraction_at-requires c = (c.requires.readable, subst (λ ps. AreReduced (point_of ps)) (sym c.as_slice.ensures.value) c.loop-column.invariant.reduced)
 
 pub loop-column-preserved : goal.loop-column-preserved
 loop-column-preserved c =

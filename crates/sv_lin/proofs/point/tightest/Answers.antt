@@ -25,7 +25,7 @@ row-requires c =
 
 pub bound_at-requires-clause-formed : goal.bound_at-requires-clause-formed
 bound_at-requires-clause-formed c =
-    c.requires.readable.1 (plain_row c.row.result.now) (contains_get (force c.args.rows.now c.args.work.now.made.items) (get_or c.args.numbers.now c.loop-number.number-index 0) (plain_row c.row.result.now) c.row.ensures)
+    c.requires.placed.0.1 (plain_row c.row.result.now) (contains_get (force c.args.rows.now c.args.work.now.made.items) (get_or c.args.numbers.now c.loop-number.number-index 0) (plain_row c.row.result.now) c.row.ensures)
 
 pub returns-in-None : goal.returns-in-None
 returns-in-None c x h =
