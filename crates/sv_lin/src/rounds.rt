@@ -1,8 +1,8 @@
 ghost use Rattle.std.specs.Prelude.{◌<◌, ◌≤ℤ◌, ◌∷◌, [], pos, length, unsigned_abs, IfOk, IfSome};
 ghost use Rattle.sv_row.specs.RowParts.{monomials, Divides};
 ghost use Rattle.sv_lin.specs.Eliminations.{AreFormed};
-ghost use Rattle.sv_lin.specs.UnderWay.{row_made, given, GrowsUnder, CombinesPairs, CombinesAll, AreColumns, IsQuotient, CanBeMade};
-ghost use Rattle.sv_lin.specs.Holding.{held, IsOn, Leaves, ArePairsOf, AreAllPairsOf, IsCombination, EntersRow, CompletesColumn, CompletesAll};
+ghost use Rattle.sv_lin.specs.UnderWay.{row_made, given, GrowsUnder, CombinesPairs, AreColumns, IsQuotient, CanBeMade};
+ghost use Rattle.sv_lin.specs.Holding.{held, IsOn, Step, ArePairsOf, AreAllPairsOf, IsCombination, EntersRow, CombinesPair, Crosses, CompletesColumn, CompletesAll};
 
 use crate::made::{Made, Origin, Outcome};
 use crate::sides::sides_of;
@@ -89,7 +89,7 @@ fn combination(
 fn enter(rows: &[Row], limit: u64, work: &mut Work, made: Made) -> Result<Outcome, NoMemory>
     requires way { IsOn rows.now limit work.old }
     requires sound { CanBeMade (held rows.now work.old) made }
-    ensures { IfOk result (λ o. Leaves rows.now limit work.old work.new (EntersRow (row_made made)) o) }
+    ensures { IfOk result (Step rows.now limit work.old work.new (EntersRow (row_made made))) }
 {
     if work.holds(rows, &made.row) {
         return Ok(Outcome::On);
@@ -108,7 +108,7 @@ fn divide(
 ) -> Result<Outcome, NoMemory>
     requires way { IsOn rows.now limit work.old }
     requires there { number < length (held rows.now work.old) }
-    ensures { IfOk result (λ o. Leaves rows.now limit work.old work.new (GrowsUnder number) o) }
+    ensures { IfOk result (Step rows.now limit work.old work.new (GrowsUnder number)) }
 {
     let made = quotient(alloc, rows, work, number)?;
     match made {
@@ -128,7 +128,7 @@ fn combine(
 ) -> Result<Outcome, NoMemory>
     requires way { IsOn rows.now limit work.old }
     requires pair { ArePairsOf rows.now work.old upper (lower ∷ []) }
-    ensures { IfOk result (Leaves rows.now limit work.old work.new (CombinesPairs upper (lower ∷ []))) }
+    ensures { IfOk result (Step rows.now limit work.old work.new (CombinesPair upper lower)) }
 {
     let made = combination(alloc, rows, work, upper, lower)?;
     let Some(made) = made else {
@@ -158,7 +158,7 @@ fn combine_with_lowers(
 ) -> Result<Outcome, NoMemory>
     requires way { IsOn rows.now limit work.old }
     requires pairs { ArePairsOf rows.now work.old upper lowers.now }
-    ensures { IfOk result (Leaves rows.now limit work.old work.new (CombinesPairs upper lowers.now)) }
+    ensures { IfOk result (Step rows.now limit work.old work.new (CombinesPairs upper lowers.now)) }
 {
     for &lower in lowers {
         match combine(alloc, rows, limit, work, upper, lower)? {
@@ -179,7 +179,7 @@ fn combine_sides(
 ) -> Result<Outcome, NoMemory>
     requires way { IsOn rows.now limit work.old }
     requires pairs { AreAllPairsOf rows.now work.old uppers.now lowers.now }
-    ensures { IfOk result (Leaves rows.now limit work.old work.new (CombinesAll uppers.now lowers.now)) }
+    ensures { IfOk result (Step rows.now limit work.old work.new (Crosses uppers.now lowers.now)) }
 {
     for &upper in uppers {
         match combine_with_lowers(alloc, rows, limit, work, upper, lowers)? {
@@ -199,7 +199,7 @@ fn eliminate_column(
     column: usize,
 ) -> Result<Outcome, NoMemory>
     requires { IsOn rows.now limit work.old }
-    ensures { IfOk result (λ o. Leaves rows.now limit work.old work.new (CompletesColumn column) o) }
+    ensures { IfOk result (Step rows.now limit work.old work.new (CompletesColumn column)) }
 {
     let sides = sides_of(alloc, rows, work, column)?;
     combine_sides(
@@ -219,7 +219,7 @@ fn divide_given(
     work: &mut Work,
 ) -> Result<Outcome, NoMemory>
     requires { IsOn rows.now limit work.old }
-    ensures { IfOk result (λ o. Leaves rows.now limit work.old work.new (λ old new. Unit {0}) o) }
+    ensures { IfOk result (Step rows.now limit work.old work.new (λ old new. Unit {0})) }
 {
     for number in 0..rows.len() {
         match divide(alloc, rows, limit, work, number)? {
@@ -239,7 +239,7 @@ fn eliminate_from(
 ) -> Result<Outcome, NoMemory>
     requires way { IsOn rows.now limit work.old }
     requires columns { AreColumns (given rows.now) columns.now }
-    ensures { IfOk result (λ o. Leaves rows.now limit work.old work.new CompletesAll o) }
+    ensures { IfOk result (Step rows.now limit work.old work.new CompletesAll) }
 {
     let mut left = columns;
     while let Some((&column, rest)) = left.split_last() {
@@ -262,7 +262,7 @@ pub fn eliminate_columns(
 ) -> Result<Outcome, NoMemory>
     requires way { IsOn rows.now limit work.old }
     requires columns { AreColumns (given rows.now) columns.now }
-    ensures { IfOk result (λ o. Leaves rows.now limit work.old work.new CompletesAll o) }
+    ensures { IfOk result (Step rows.now limit work.old work.new CompletesAll) }
 {
     match divide_given(alloc, rows, limit, work)? {
         Outcome::On => eliminate_from(alloc, rows, limit, work, columns),
