@@ -1,20 +1,18 @@
 -- The start of an elimination, and its answers.
 use Rattle.std.proofs.Common.{ℕ, zero, suc, ◌+◌, ◌<◌, ◌≤◌, ◌^◌, ◌⊎◌, inl, inr, Bool, true, false, nat_eq, List, [], ◌∷◌, ◌++◌, map, length, take, get_or, reverse, ◌≡◌, refl, sym, ap, ap₂, ◌∙◌, subst, arith, append_assoc}
-use Rattle.std.proofs.lemmas.List.{append-nil, length-map, map-append, reverse-append, reverse-reverse}
-use Rattle.std.proofs.lemmas.List.Elements.{Contains-append_left, Contains-append_right, Contains-append_cases}
+use Rattle.std.proofs.lemmas.List.{append-nil, map-append, reverse-append, reverse-reverse}
+use Rattle.std.proofs.lemmas.List.Elements.{Contains-append_left, Contains-append_cases}
 use Rattle.std.proofs.lemmas.Bool.Decides.{Decides-eqb}
 use Rattle.std.proofs.lemmas.Option.{slice_get_within}
 use Rattle.std.specs.List.{Contains}
-use Rattle.std.specs.Option.{option_to_list}
 use Rattle.std.specs.Global.{Vec}
-use Rattle.std.specs.Prelude.{Result, Ok, Err, IfOk, Option, None, Some, slice_get, slice_index_or, ◌↔◌}
-use lib.IntN.{ℤ, pos}
-use Rattle.sv_log.specs.LogEntries.{Monomial, Row, Entry, columns}
+use Rattle.std.specs.Prelude.{Result, Ok, Err, IfOk, Some, slice_get, slice_index_or}
+use lib.IntN.{ℤ}
+use Rattle.sv_log.specs.LogEntries.{Row, Entry, columns}
 use Rattle.sv_log.specs.LogRows.{monomial}
 use Rattle.sv_log.specs.Logs.{Bound, IsAbsurd}
-use Rattle.sv_fraction.specs.Fractions.{Ratio, ratio, IsReduced}
-use Rattle.sv_point.specs.NearestPoints.{IsRowOf, IsMet, IsNearestAt}
-use Rattle.sv_lin.specs.Eliminations.{made, in_force, HaveNoAbsurd, AreEntriesOn, IsContradiction, Placed, value_in, IsColumnOf, AreFrom, ListsColumns, IsNearestIn, IsPoint, IsExcess, IsExceedingValue, AreFormed, IsSpent, AreExceedingRows}
+use Rattle.sv_point.specs.NearestPoints.{IsRowOf}
+use Rattle.sv_lin.specs.Eliminations.{made, in_force, HaveNoAbsurd, AreEntriesOn, IsContradiction, Placed, IsColumnOf, AreFrom, IsNearestIn, IsPoint, IsExcess, IsExceedingValue, AreFormed, IsSpent, AreExceedingRows}
 use Rattle.sv_lin.specs.Completeness.{AreComplete}
 use Rattle.sv_lin.specs.declared.place.Place.{Place}
 use Rattle.sv_term.specs.declared.node.TermId.{TermId}
@@ -32,7 +30,7 @@ use Rattle.sv_lin.specs.declared.made.Outcome.{Outcome}
 use Rattle.sv_lin.specs.declared.made.Outcome.TheVariants as out
 use Rattle.sv_lin.specs.UnderWay.{entry_made, entries_of, given, force, EachColumn, IsUnderWay, Ends, RiseFrom, AreColumns}
 use Rattle.sv_lin.proofs.Forces.{length_force, room}
-use Rattle.sv_lin.specs.Placing.{placed, point_of, columns_placed, ExceedsAt, AreReduced, ArePlaced, StopsAt, AreOfColumns, Places}
+use Rattle.sv_lin.specs.Placing.{placed, point_of, ArePlaced, StopsAt, AreOfColumns, Places}
 use Rattle.sv_lin.specs.declared.point.Placing.{Placing}
 use Rattle.sv_lin.specs.declared.point.Placing.TheVariants as pl
 use Rattle.sv_lin.proofs.NewRows.{each_own, each_weaker, each_last}

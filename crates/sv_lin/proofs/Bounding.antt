@@ -1,9 +1,9 @@
 -- Working out a row at places, and its bound.
-use Rattle.std.proofs.Common.{ℕ, ◌<◌, ◌⊎◌, inl, inr, Bool, true, false, List, [], ◌∷◌, ◌++◌, map, length, ◌≡◌, refl, sym, ap, ap₂, ◌∙◌, subst, arith}
+use Rattle.std.proofs.Common.{ℕ, inl, inr, List, [], ◌∷◌, ◌++◌, length, ◌≡◌, refl, sym, ap, ◌∙◌, subst, arith}
 use Rattle.std.proofs.lemmas.List.{map-append, same_from_push}
-use Rattle.std.specs.Prelude.{Option, None, Some, IfSome, IsSome, MatchOption}
+use Rattle.std.specs.Prelude.{Option, None, Some, IsSome, MatchOption}
 use lib.IntN.{ℤ, pos}
-use Rattle.sv_log.specs.LogEntries.{Monomial, Row}
+use Rattle.sv_log.specs.LogEntries.{Monomial}
 use Rattle.sv_log.specs.LogRows.{monomial}
 use Rattle.sv_row.specs.RowParts.{monomial_of, monomials}
 use Rattle.sv_fraction.specs.Fractions.{Ratio, ratio, FitsSum, IsSum, IsBound, ExceedsBound}

@@ -1,7 +1,7 @@
 -- The tightest bound of a side, and the places of the columns, one more at a time.
-use Rattle.std.proofs.Common.{ℕ, zero, suc, ◌+◌, ◌<◌, ◌≤◌, ◌⊎◌, inl, inr, List, [], ◌∷◌, ◌++◌, map, length, take, drop, get_or, ◌≡◌, refl, sym, ap, ap₂, ◌∙◌, subst, arith}
+use Rattle.std.proofs.Common.{ℕ, zero, suc, ◌+◌, ◌<◌, ◌⊎◌, inl, inr, List, [], ◌∷◌, ◌++◌, map, length, take, drop, get_or, ◌≡◌, refl, sym, ap, ◌∙◌, subst, arith}
 use Rattle.std.proofs.lemmas.List.{map-append}
-use Rattle.std.proofs.lemmas.List.Elements.{Contains-append_left, Contains-append_cases, Contains-push}
+use Rattle.std.proofs.lemmas.List.Elements.{Contains-append_cases}
 use Rattle.std.proofs.lemmas.Int.{ints}
 use Rattle.std.specs.List.{Contains}
 use Rattle.std.specs.Prelude.{Option, None, Some, slice_get, slice_index_or, MatchOption, Result, Ok, Err, MatchResult}
@@ -9,7 +9,7 @@ use lib.IntN.{ℤ, pos, ◌*ℤ◌}
 use lib.Signed.{◌≤ℤ◌, ◌<ℤ◌}
 use Rattle.sv_log.specs.LogEntries.{Row}
 use Rattle.sv_log.specs.LogRows.{monomial}
-use Rattle.sv_fraction.specs.Fractions.{Ratio, ratio, IsReduced}
+use Rattle.sv_fraction.specs.Fractions.{Ratio, IsReduced}
 use Rattle.sv_point.specs.NearestPoints.{IsRowOf, IsAtMost, IsNearestAt}
 use Rattle.sv_point.specs.PointLaws.{ArePositive, IsBoundOf}
 use Rattle.sv_lin.specs.Eliminations.{Placed, value_in, AreFormed, HaveNoAbsurd}
@@ -20,11 +20,11 @@ use Rattle.sv_lin.specs.declared.point.Limit.TheVariants as l
 use Rattle.sv_lin.specs.declared.point.Side.{Side}
 use Rattle.sv_lin.specs.declared.point.Side.TheVariants as s
 use Rattle.sv_lin.specs.UnderWay.{EachColumn, RiseFrom, AreSides}
-use Rattle.sv_lin.specs.Placing.{placed, point_of, columns_placed, ExceedsAt, IsAt, HasBound, Keeps, Tightens, IsTightest, IsWithin, Chooses, IsFractionAt, DoesExceed, AreReduced, ArePlaced, StopsAt, AreOfColumns}
+use Rattle.sv_lin.specs.Placing.{placed, point_of, ExceedsAt, IsAt, HasBound, Keeps, Tightens, IsTightest, IsWithin, Chooses, IsFractionAt, DoesExceed, ArePlaced, StopsAt, AreOfColumns}
 use Rattle.sv_lin.proofs.Answering.{below_split}
 use Rattle.sv_lin.proofs.ByHand.{zero_reduced}
 use Rattle.sv_lin.proofs.NewRows.{each_last}
-use Rattle.sv_lin.proofs.Gathering.{same_some, take_more, contains_at, rises_behind}
+use Rattle.sv_lin.proofs.Gathering.{same_some, take_more, rises_behind}
 use Rattle.sv_lin.proofs.NearPoints.{at_most_through, agree_nearest, nearest_here, chosen_reduced, placed_other, placed_own}
 
 -- ---- a side

@@ -1,20 +1,18 @@
 -- One more entry: it is accepted, or ends the elimination.
-use Rattle.std.proofs.Common.{ℕ, zero, suc, ◌+◌, ◌<◌, ◌≤◌, ◌⊎◌, inl, inr, Bool, true, false, List, [], ◌∷◌, ◌++◌, map, length, ◌≡◌, refl, sym, ap, ap₂, ◌∙◌, subst, arith, append_assoc}
-use Rattle.std.proofs.lemmas.List.{map-append, length-map, length_push, length-append, append-nil}
-use Rattle.std.proofs.lemmas.List.Elements.{Contains-push, Contains-push_cases, Contains-append_left, Contains-append_right, Contains-append_cases}
+use Rattle.std.proofs.Common.{ℕ, zero, suc, ◌+◌, ◌<◌, ◌≤◌, inl, inr, false, List, [], ◌∷◌, ◌++◌, map, length, ◌≡◌, refl, sym, ap, ◌∙◌, subst, arith, append_assoc}
+use Rattle.std.proofs.lemmas.List.{map-append, length-map, append-nil}
+use Rattle.std.proofs.lemmas.List.Elements.{Contains-push_cases, Contains-append_left, Contains-append_right}
 use Rattle.std.proofs.lemmas.Option.{slice_get_within}
 use Rattle.std.specs.List.{Contains, All}
 use Rattle.std.specs.Prelude.{Some, slice_get, slice_index_or}
 use lib.IntN.{ℤ, pos}
-use lib.Signed.{◌<ℤ◌}
 use Rattle.sv_term.specs.Terms.{Term}
-use Rattle.sv_log.specs.LogEntries.{Monomial, Row, Entry, AddTerm, AddFact, Linear, Combine, Divide, SplitOn, Cut, CloseAt, Clash, columns, cost_of, cost_of_log, terms_named, items_named}
-use Rattle.sv_log.specs.LogRows.{IsCombined, IsDivided}
+use Rattle.sv_log.specs.LogEntries.{Monomial, Row, Entry, AddTerm, AddFact, Linear, Combine, Divide, SplitOn, Cut, CloseAt, Clash, columns, cost_of, cost_of_log, terms_named}
 use Rattle.sv_log.specs.Logs.{Item, Bound, State, IsAbsurd, IsAllowed, IsAccepted, after, after_all, with_item}
 use Rattle.sv_point.specs.NearestPoints.{AreBelow}
-use Rattle.sv_lin.specs.Eliminations.{holding, HaveColumns, AreOfRows, made, in_force, HaveNoAbsurd, but_last, AreEntriesOn, IsContradiction, IsSpent, IsFormed, AreFormed, IsColumnOf}
+use Rattle.sv_lin.specs.Eliminations.{holding, HaveColumns, AreOfRows, made, in_force, HaveNoAbsurd, but_last, AreEntriesOn, IsContradiction, IsSpent, IsFormed, IsColumnOf}
 use Rattle.sv_lin.specs.UnderWay.{EachColumn, IsUnderWay, IsStep}
-use Rattle.sv_lin.proofs.NewRows.{each_combined, each_divided, each_weaker, each_below, below_each, all_columns, combined_formed, divided_formed}
+use Rattle.sv_lin.proofs.NewRows.{each_combined, each_divided, each_weaker, all_columns, combined_formed, divided_formed}
 
 -- ---- lists
 

@@ -1,6 +1,6 @@
 -- The rows in force as the code has them: the given ones, and behind them those that were made.
-use Rattle.std.proofs.Common.{ℕ, zero, suc, ◌+◌, ◌-◌, ◌<◌, ◌≤◌, ◌^◌, ◌⊎◌, inl, inr, Bool, true, false, ◌&&◌, nat_eq, MatchBool, List, [], ◌∷◌, ◌++◌, map, length, get_or, drop, ◌≡◌, refl, sym, ap, ap₂, ◌∙◌, subst, arith}
-use Rattle.std.proofs.lemmas.List.{map-append, length-map, length-append, drop_more, drop_all}
+use Rattle.std.proofs.Common.{ℕ, zero, suc, ◌+◌, ◌-◌, ◌<◌, ◌≤◌, ◌^◌, inl, inr, Bool, true, false, ◌&&◌, nat_eq, MatchBool, List, [], ◌∷◌, ◌++◌, map, length, get_or, drop, ◌≡◌, refl, sym, ap, ap₂, ◌∙◌, subst, arith}
+use Rattle.std.proofs.lemmas.List.{length-map, length-append, drop_all}
 use Rattle.std.proofs.lemmas.List.Elements.{Contains-append_left, Contains-append_right, Contains-append_cases}
 use Rattle.std.specs.List.{Contains}
 use Rattle.std.specs.Bool.{Decides}
@@ -14,11 +14,11 @@ use Rattle.sv_log.specs.LogRows.{row}
 use Rattle.sv_row.specs.RowParts.{monomial_of, monomials}
 use Rattle.sv_cert.specs.declared.log.Row.{Row as CodeRow}
 use Rattle.sv_cert.specs.PlainLogs.{plain_row}
-use Rattle.sv_lin.specs.Eliminations.{made, in_force}
+use Rattle.sv_lin.specs.Eliminations.{made}
 use Rattle.sv_lin.specs.declared.made.Made.{Made}
 use Rattle.sv_lin.specs.declared.made.Origin.{Origin}
 use Rattle.sv_lin.specs.declared.made.Origin.TheVariants as o
-use Rattle.sv_lin.specs.UnderWay.{entry_by, entry_made, entries_of, row_made, rows_of, given, force, IsUnderWay, IsStep}
+use Rattle.sv_lin.specs.UnderWay.{entry_by, entries_of, row_made, rows_of, given, force, IsUnderWay}
 use Rattle.sv_lin.proofs.Entering.{Adds, adds_combined, adds_divided}
 
 pub adds : (g : Origin) (r : Row) → Adds (entry_by g r) r

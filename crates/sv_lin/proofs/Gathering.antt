@@ -1,20 +1,18 @@
 -- What steps add up to: rows that grow below a column, pairs that were combined, columns that are complete.
-use Rattle.std.proofs.Common.{ℕ, zero, suc, ◌+◌, ◌<◌, ◌≤◌, ◌⊎◌, inl, inr, Bool, true, false, List, [], ◌∷◌, ◌++◌, map, length, take, get_or, ◌≡◌, refl, sym, ap, ap₂, ◌∙◌, subst, arith, append_assoc}
-use Rattle.std.proofs.lemmas.List.{append-nil, length_push}
+use Rattle.std.proofs.Common.{ℕ, zero, suc, ◌+◌, ◌<◌, ◌≤◌, ◌⊎◌, inl, inr, List, [], ◌∷◌, ◌++◌, length, take, get_or, ◌≡◌, refl, sym, ap, ap₂, ◌∙◌, subst, arith, append_assoc}
+use Rattle.std.proofs.lemmas.List.{append-nil}
 use Rattle.std.proofs.lemmas.Int.{ints}
-use Rattle.std.proofs.lemmas.List.Elements.{Contains-push, Contains-push_cases, Contains-append_left, Contains-append_right, Contains-append_cases}
+use Rattle.std.proofs.lemmas.List.Elements.{Contains-push, Contains-push_cases, Contains-append_left, Contains-append_cases}
 use Rattle.std.specs.List.{Contains}
 use Rattle.std.proofs.lemmas.Option.{slice_get_within}
 use Rattle.std.specs.Prelude.{Option, None, Some, slice_get, slice_index_or, Result, Ok, Err, IfOk, IfSome, MatchOption}
 use lib.IntN.{ℤ, pos, negsuc, ◌*ℤ◌, ◌+ℤ◌}
 use lib.Signed.{◌≤ℤ◌, ◌<ℤ◌}
-use Rattle.sv_log.specs.LogEntries.{Monomial, Row, Entry, Combine, Divide, columns}
-use Rattle.sv_log.specs.LogRows.{monomial, greatest, with_parts, times_parts, times, sum_of, IsCombined, IsDivided}
-use Rattle.sv_log.specs.Logs.{Bound, IsAbsurd}
+use Rattle.sv_log.specs.LogEntries.{Monomial, Row, Entry}
+use Rattle.sv_log.specs.LogRows.{monomial, greatest, with_parts, times_parts, IsCombined}
 use Rattle.sv_point.specs.NearestPoints.{AreBelow, IsRowOf}
 use Rattle.sv_point.proofs.Below.{combined_below, times_last, times_below}
-use Rattle.sv_row.specs.RowParts.{AreAbove, AreRising}
-use Rattle.sv_lin.specs.Eliminations.{in_force, AreFormed, IsFormed, AreNonZero, IsColumnOf, AreExceedingRows}
+use Rattle.sv_lin.specs.Eliminations.{in_force, AreFormed, IsFormed, AreNonZero, IsColumnOf}
 use Rattle.sv_lin.specs.Completeness.{HaveSum, AreCompleteAt, AreComplete}
 use Rattle.sv_lin.specs.declared.made.Made.{Made}
 use Rattle.sv_lin.specs.declared.made.Outcome.{Outcome}
@@ -22,7 +20,6 @@ use Rattle.sv_lin.specs.declared.made.Outcome.TheVariants as out
 use Rattle.sv_lin.specs.UnderWay.{entry_made, row_made, EachColumn, IsUnderWay, Ends, IsStep, GrowsBelow, GrowsUnder, IsUpper, IsLower, AreSides, AddsSide, WereCombined, ArePairs, CombinesFirst, CombinesPairs, AreAllPairs, CombinesFirstOf, CombinesAll, AreColumns, RiseFrom, IsQuotient, IsSum, CanBeMade, Enters, AreLeft}
 use Rattle.sv_lin.proofs.NewRows.{each_below, below_each, each_divided, each_last}
 use Rattle.sv_lin.proofs.Entering.{contains_get, get_contained, get_append}
-use Rattle.sv_lin.proofs.Saturation.{one_sum}
 use Rattle.sv_lin.proofs.Combining.{greatest_last}
 
 -- ---- lists

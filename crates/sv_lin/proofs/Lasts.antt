@@ -1,8 +1,8 @@
 -- The last pair of a row's parts is the greatest column's.
-use Rattle.std.proofs.Common.{ℕ, ◌<◌, List, [], ◌∷◌, ◌++◌, ◌≡◌, refl, sym, ap, ap₂, ◌∙◌, subst, arith}
+use Rattle.std.proofs.Common.{ℕ, ◌<◌, List, [], ◌∷◌, ◌++◌, ◌≡◌, sym, ap, ap₂, ◌∙◌, subst}
 use Rattle.std.proofs.lemmas.List.{map-append}
 use lib.IntN.{ℤ}
-use Rattle.sv_log.specs.LogEntries.{Monomial, Row}
+use Rattle.sv_log.specs.LogEntries.{Monomial}
 use Rattle.sv_log.specs.LogRows.{monomial}
 use Rattle.sv_point.specs.NearestPoints.{AreBelow, IsRowOf}
 use Rattle.sv_row.specs.RowParts.{monomial_of, monomials, AreAbove, AreRising}

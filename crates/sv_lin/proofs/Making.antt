@@ -1,13 +1,13 @@
 -- The rows that the code makes, and what its steps leave.
-use Rattle.std.proofs.Common.{ℕ, zero, suc, ◌+◌, ◌<◌, ◌≤◌, ◌^◌, ◌⊎◌, inl, inr, List, [], ◌∷◌, ◌++◌, map, length, ◌≡◌, refl, sym, ap, ap₂, ◌∙◌, subst, arith}
+use Rattle.std.proofs.Common.{ℕ, zero, suc, ◌<◌, inr, List, [], ◌∷◌, ◌++◌, length, ◌≡◌, refl, sym, ap, ap₂, ◌∙◌, subst, arith}
 use Rattle.std.proofs.lemmas.Int.{ints}
 use Rattle.std.specs.List.{Contains}
-use Rattle.std.specs.Prelude.{Option, None, Some, slice_get, Result, Ok, Err, IfOk, IfSome, MatchOption, unsigned_abs}
+use Rattle.std.specs.Prelude.{Some, slice_get, Result, IfOk, unsigned_abs}
 use Rattle.std.proofs.lemmas.Option.{slice_get_within}
 use lib.IntN.{ℤ, pos, negsuc, ◌*ℤ◌, ◌+ℤ◌, *ℤ_comm}
 use lib.Signed.{◌≤ℤ◌, ◌<ℤ◌}
-use Rattle.sv_log.specs.LogEntries.{Monomial, Row, Entry}
-use Rattle.sv_log.specs.LogRows.{row, times_parts, IsCombined, IsDivided}
+use Rattle.sv_log.specs.LogEntries.{Row}
+use Rattle.sv_log.specs.LogRows.{times_parts, IsCombined, IsDivided}
 use Rattle.sv_num.specs.Rounding.{IsCeiling}
 use Rattle.sv_row.specs.RowParts.{monomials, Divides}
 use Rattle.sv_point.specs.NearestPoints.{IsRowOf}
@@ -17,11 +17,10 @@ use Rattle.sv_lin.specs.CancellingRows.{row_by, CanCancel}
 use Rattle.sv_lin.specs.Eliminations.{in_force, AreFormed, AreExceedingRows, ExceedsCombination}
 use Rattle.sv_lin.specs.Completeness.{AreCompleteAt}
 use Rattle.sv_lin.specs.declared.made.Made.{Made}
-use Rattle.sv_lin.specs.declared.made.Origin.{Origin}
 use Rattle.sv_lin.specs.declared.made.Outcome.{Outcome}
-use Rattle.sv_lin.specs.UnderWay.{entry_by, entry_made, entries_of, row_made, given, force, IsUnderWay, Ends, AddsEntry, GrowsUnder, GrowsBelow, ArePairs, CombinesPairs, CombinesAll, AreSides, IsQuotient, IsSum, CanBeMade, Enters}
+use Rattle.sv_lin.specs.UnderWay.{entry_made, entries_of, row_made, given, force, IsUnderWay, Ends, AddsEntry, GrowsUnder, GrowsBelow, ArePairs, CombinesPairs, CombinesAll, AreSides, IsQuotient, IsSum, CanBeMade, Enters}
 use Rattle.sv_lin.proofs.Entering.{contains_get, force_push}
-use Rattle.sv_lin.proofs.Forces.{adds, room}
+use Rattle.sv_lin.proofs.Forces.{adds}
 use Rattle.sv_lin.proofs.Gathering.{ends_weaker, if_ok, step_from, divides_under, sum_done, complete_at, same_some}
 
 -- ---- a quotient

@@ -1,6 +1,5 @@
 -- The nearest point, column by column: what is chosen between the bounds is the nearest.
-use Rattle.std.proofs.Common.{ℕ, zero, suc, ◌+◌, ◌*◌, ◌<◌, ◌≤◌, ◌⊎◌, inl, inr, Bool, true, false, cond, nat_eq, List, [], ◌∷◌, ◌++◌, map, length, take, get_or, ◌≡◌, refl, sym, ap, ap₂, ◌∙◌, subst, arith, append_assoc}
-use Rattle.std.proofs.lemmas.List.{map-append, append-nil}
+use Rattle.std.proofs.Common.{ℕ, zero, suc, ◌*◌, ◌<◌, ◌⊎◌, inl, inr, Bool, true, false, cond, nat_eq, List, [], ◌∷◌, ◌++◌, map, length, ◌≡◌, refl, sym, ap, ap₂, ◌∙◌, subst, arith}
 use Rattle.std.proofs.lemmas.Int.{ints}
 use Rattle.std.proofs.lemmas.Bool.Decides.{Decides-eqb}
 use Rattle.std.proofs.lemmas.Option.{slice_get_within}
@@ -9,20 +8,19 @@ use Rattle.std.specs.Prelude.{Option, None, Some, slice_get, unsigned_abs}
 use lib.IntN.{ℤ, pos, negsuc, neg_ℤ, ◌+ℤ◌, ◌*ℤ◌, *ℤ_comm}
 use lib.Signed.{◌≤ℤ◌, ◌<ℤ◌}
 use Rattle.sv_log.specs.LogEntries.{Monomial, Row}
-use Rattle.sv_log.specs.LogRows.{monomial, greatest, times, sum_of, IsCombined}
-use Rattle.sv_log.specs.Logs.{Bound, IsAbsurd}
-use Rattle.sv_fraction.specs.Fractions.{Ratio, ratio, IsReduced, IsSame, sum_with, magnitude}
+use Rattle.sv_log.specs.LogRows.{monomial, greatest, times, sum_of}
+use Rattle.sv_fraction.specs.Fractions.{Ratio, ratio, IsReduced, IsSame, sum_with}
 use Rattle.sv_lin.proofs.ByHand.{zero_reduced}
 use Rattle.sv_fraction.proofs.Integers.{negated_right, multiplied, cancelled, positive_is}
-use Rattle.sv_point.specs.NearestPoints.{AreBelow, IsRowOf, amount_from, worth, IsMet, with_value, MeetsAt, IsAtMost, IsAsNear, IsNearestAt}
+use Rattle.sv_point.specs.NearestPoints.{AreBelow, IsRowOf, amount_from, worth, IsMet, with_value, IsAtMost, IsAsNear, IsNearestAt}
 use Rattle.sv_point.specs.PointLaws.{ArePositive, IsBoundOf, IsChosen}
 use Rattle.sv_point.proofs.Worths.{amount-append, row_worth, scaled, by_size}
 use Rattle.sv_point.proofs.Crossing.{crossing}
 use Rattle.sv_point.proofs.Bounds.{chosen}
-use Rattle.sv_lin.specs.Eliminations.{Placed, value_in, AreFormed, IsFormed, HaveNoAbsurd}
-use Rattle.sv_lin.specs.Completeness.{HaveSum, AreComplete}
-use Rattle.sv_lin.specs.UnderWay.{EachColumn, IsUpper, IsLower, AreSides}
-use Rattle.sv_lin.specs.Placing.{HasBound, Keeps, IsTightest, IsNotAbove, IsNotBelow, Chooses}
+use Rattle.sv_lin.specs.Eliminations.{Placed, value_in, AreFormed, HaveNoAbsurd}
+use Rattle.sv_lin.specs.Completeness.{AreComplete}
+use Rattle.sv_lin.specs.UnderWay.{AreSides}
+use Rattle.sv_lin.specs.Placing.{HasBound, IsTightest, IsNotAbove, IsNotBelow, Chooses}
 use Rattle.sv_lin.specs.declared.point.Limit.{Limit}
 use Rattle.sv_lin.specs.declared.point.Limit.TheVariants as l
 use Rattle.sv_lin.specs.declared.point.Side.TheVariants as s

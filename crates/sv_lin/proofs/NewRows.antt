@@ -1,13 +1,12 @@
 -- A combination and a division of rows in normal form are in normal form, and have no new column.
-use Rattle.std.proofs.Common.{ℕ, zero, suc, ◌<◌, ◌⊎◌, inl, inr, Bool, true, false, cond, nat_eq, nat_lt, List, [], ◌∷◌, ◌++◌, length, ◌≡◌, refl, sym, ap, ◌∙◌, subst, arith}
+use Rattle.std.proofs.Common.{ℕ, zero, suc, ◌<◌, ◌⊎◌, inl, inr, Bool, true, false, cond, nat_eq, nat_lt, List, [], ◌∷◌, ◌++◌, ◌≡◌, refl, sym, ap, ◌∙◌, subst, arith}
 use Rattle.std.proofs.lemmas.Int.{ints}
 use Rattle.std.proofs.lemmas.Bool.Decides.{Decides-eqb, Decides-ltb}
 use Rattle.std.specs.List.{Contains, All}
-use Rattle.std.specs.Prelude.{slice_index_or}
 use lib.IntN.{ℤ, pos, negsuc, ◌+ℤ◌, ◌*ℤ◌}
-use lib.Signed.{◌≤ℤ◌, ◌<ℤ◌}
+use lib.Signed.{◌<ℤ◌}
 use Rattle.sv_log.specs.LogEntries.{Monomial, Row, columns}
-use Rattle.sv_log.specs.LogRows.{monomial, is_zero, with_part, with_parts, times_parts, times, sum_of, IsCombined, IsDivided}
+use Rattle.sv_log.specs.LogRows.{monomial, is_zero, with_part, with_parts, times_parts, IsCombined, IsDivided}
 use Rattle.sv_point.specs.NearestPoints.{AreBelow}
 use Rattle.sv_row.specs.RowParts.{AreAbove, AreRising}
 use Rattle.sv_row.proofs.Sums.{above_more, above_parts, above_times}

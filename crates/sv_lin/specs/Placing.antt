@@ -1,5 +1,5 @@
 -- Serves the proof: places of columns, the bounds that a side sets, and the fraction that is chosen between two.
-use Rattle.std.specs.Prelude.{ℕ, ◌<◌, List, [], ◌∷◌, ◌++◌, map, length, ◌≡◌, ◌⊎◌, ℤ, pos, ◌<ℤ◌, ◌≤ℤ◌, Some, slice_get, Result, MatchResult}
+use Rattle.std.specs.Prelude.{ℕ, List, ◌∷◌, ◌++◌, map, length, ◌≡◌, ◌⊎◌, ℤ, pos, ◌<ℤ◌, ◌≤ℤ◌, Some, slice_get, Result, MatchResult}
 use Rattle.std.specs.List.{Contains}
 use Rattle.sv_log.specs.LogEntries.{Row}
 use Rattle.sv_fraction.specs.Fractions.{Ratio, ratio, IsReduced}

@@ -7,7 +7,7 @@ use Rattle.sv_log.specs.Logs.{Bound, IsAbsurd}
 use Rattle.sv_point.specs.NearestPoints.{AreBelow, IsRowOf}
 use Rattle.sv_cert.specs.declared.log.Row.{Row as CodeRow}
 use Rattle.sv_cert.specs.PlainLogs.{plain_row}
-use Rattle.sv_lin.specs.Eliminations.{made, in_force, HaveNoAbsurd, AreEntriesOn, AreFormed, IsColumnOf, IsContradiction, IsSpent, AreExceedingRows}
+use Rattle.sv_lin.specs.Eliminations.{in_force, HaveNoAbsurd, AreEntriesOn, AreFormed, IsColumnOf, IsContradiction, IsSpent, AreExceedingRows}
 use Rattle.sv_lin.specs.Completeness.{HaveSum, AreCompleteAt}
 use Rattle.sv_lin.specs.declared.made.Made.{Made}
 use Rattle.sv_lin.specs.declared.made.Origin.{Origin}

@@ -1,4 +1,4 @@
-use Rattle.std.proofs.Common.{◌≡◌, map, sym, ap, ◌∙◌, subst, arith}
+use Rattle.std.proofs.Common.{map, sym, ap, subst, arith}
 use Rattle.std.proofs.lemmas.List.{length-map}
 use Rattle.sv_cert.specs.PlainLogs.{plain_entry, plain_row}
 use Rattle.sv_lin.specs.Eliminations.{IsContradiction}

@@ -1,4 +1,4 @@
-use Rattle.std.proofs.Common.{map, ap, ◌∙◌, ◌≡◌, length, arith}
+use Rattle.std.proofs.Common.{map, ap, ◌∙◌, arith}
 use Rattle.sv_cert.specs.PlainLogs.{plain_entry}
 use Rattle.sv_lin.proofs.Answering.{entries_begin, entries_more, entries_end}
 use Rattle.sv_lin.proofs.elimination.entries.Goals as goal

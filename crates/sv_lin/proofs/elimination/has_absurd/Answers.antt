@@ -1,4 +1,4 @@
-use Rattle.std.proofs.Common.{refl, arith, subst, sym, ◌≡◌}
+use Rattle.std.proofs.Common.{refl, arith, subst, sym}
 use Rattle.sv_log.specs.Logs.{Bound, IsAbsurd}
 use Rattle.sv_cert.specs.PlainLogs.{plain_row}
 use Rattle.sv_lin.proofs.Forces.{among, past, none_left}

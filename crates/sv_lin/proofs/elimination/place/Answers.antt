@@ -1,4 +1,4 @@
-use Rattle.std.proofs.Common.{◌≡◌, map, sym, ap, ◌∙◌, subst, arith}
+use Rattle.std.proofs.Common.{map, sym, subst, arith}
 use Rattle.sv_lin.specs.Eliminations.{IsPoint, IsExceedingValue}
 use Rattle.sv_lin.specs.UnderWay.{given, force, entries_of}
 use Rattle.sv_lin.specs.Placing.{placed}

@@ -1,6 +1,5 @@
-use Rattle.std.proofs.Common.{ℕ, ◌<◌, ◌≡◌, ◌∙◌, ◌∷◌, [], length, map, get_or, sym, ap, subst, arith}
+use Rattle.std.proofs.Common.{◌<◌, ◌∙◌, ◌∷◌, [], length, map, get_or, sym, ap, subst, arith}
 use Rattle.std.proofs.lemmas.List.{map-append}
-use Rattle.std.specs.Prelude.{Ok, Err, MatchResult}
 use Rattle.sv_lin.specs.UnderWay.{force}
 use Rattle.sv_lin.specs.Placing.{placed, point_of, AreReduced, ArePlaced, IsFractionAt, DoesExceed}
 use Rattle.sv_lin.proofs.ColumnLists.{take_all}

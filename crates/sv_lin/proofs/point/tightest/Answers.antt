@@ -1,6 +1,5 @@
-use Rattle.std.proofs.Common.{ℕ, ◌<◌, ◌≡◌, length, get_or, subst, arith}
+use Rattle.std.proofs.Common.{◌<◌, length, get_or, subst, arith}
 use Rattle.std.proofs.lemmas.Option.{slice_get_within}
-use Rattle.std.specs.List.{Contains}
 use Rattle.sv_cert.specs.PlainLogs.{plain_row}
 use Rattle.sv_lin.specs.UnderWay.{force}
 use Rattle.sv_lin.specs.Placing.{point_of, IsTightest}

@@ -1,7 +1,6 @@
-use Rattle.std.proofs.Common.{refl, sym, ◌∙◌, ◌<◌, length, rules}
-use Rattle.std.specs.Prelude.{FitsSigned, slice_get, Some}
+use Rattle.std.proofs.Common.{refl, rules}
+use Rattle.std.specs.Prelude.{FitsSigned}
 use Rattle.std.proofs.lemmas.Int.{to_z-of_z}
-use Rattle.std.proofs.lemmas.Option.{slice_get_within}
 use mir.Syntax.{w128}
 use Rattle.sv_cert.specs.PlainLogs.{plain_row}
 use Rattle.sv_lin.specs.UnderWay.{force}

@@ -1,4 +1,4 @@
-use Rattle.std.proofs.Common.{inr, arith, ◌∷◌, [], ◌<◌, length, subst, sym}
+use Rattle.std.proofs.Common.{inr, arith, ◌∷◌, [], ◌<◌, subst}
 use Rattle.sv_lin.specs.Eliminations.{AreExceedingRows}
 use Rattle.sv_lin.specs.UnderWay.{given, force, entries_of, row_made, IsSum, Enters, CombinesPairs}
 use Rattle.sv_lin.proofs.Combining.{at_none, at_some}

@@ -1,4 +1,4 @@
-use Rattle.std.proofs.Common.{ℕ, ◌<◌, ◌≡◌, length, get_or, subst, arith}
+use Rattle.std.proofs.Common.{◌<◌, ◌≡◌, length, get_or, subst, arith}
 use Rattle.sv_lin.specs.UnderWay.{given, force, entries_of, CombinesPairs, CombinesAll, CombinesFirstOf}
 use Rattle.sv_lin.proofs.Gathering.{at_on, ends_other, same_default, no_all_pairs, all_pairs_now, one_of_pairs, more_all_pairs}
 use Rattle.sv_lin.proofs.rounds.combine_sides.Goals as goal

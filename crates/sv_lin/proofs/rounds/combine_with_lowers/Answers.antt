@@ -1,4 +1,4 @@
-use Rattle.std.proofs.Common.{ℕ, ◌<◌, ◌∷◌, [], ◌≡◌, length, get_or, subst, arith}
+use Rattle.std.proofs.Common.{◌<◌, ◌∷◌, [], ◌≡◌, length, get_or, subst, arith}
 use Rattle.sv_lin.specs.UnderWay.{given, force, entries_of, CombinesPairs, CombinesFirst}
 use Rattle.sv_lin.proofs.Gathering.{at_on, ends_other, same_default, no_pairs, pairs_now, one_pair, more_pairs}
 use Rattle.sv_lin.proofs.rounds.combine_with_lowers.Goals as goal

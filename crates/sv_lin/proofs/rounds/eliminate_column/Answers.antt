@@ -1,6 +1,5 @@
-use Rattle.std.proofs.Common.{ℕ, ◌≡◌, sym, subst, arith}
+use Rattle.std.proofs.Common.{subst, arith}
 use Rattle.std.specs.List.{Contains}
-use Rattle.sv_lin.specs.UnderWay.{force, IsUpper, IsLower}
 use Rattle.sv_lin.proofs.Forces.{room}
 use Rattle.sv_lin.proofs.Making.{column_ends}
 use Rattle.sv_lin.proofs.rounds.eliminate_column.Goals as goal

@@ -1,4 +1,3 @@
-use Rattle.std.proofs.Common.{◌≡◌, sym, subst, arith}
 use Rattle.sv_lin.specs.Completeness.{AreCompleteAt, AreComplete}
 use Rattle.sv_lin.specs.UnderWay.{given, force, entries_of, GrowsBelow}
 use Rattle.sv_lin.proofs.Gathering.{at_on, ends_other, all_left, one_less, none_left_over, no_items}

@@ -1,4 +1,4 @@
-use Rattle.std.proofs.Common.{Bool, true, false, IsTrue, List, [], ◌∷◌, map, ◌≡◌, refl, sym, ap, ◌∙◌, MatchBool, rules}
+use Rattle.std.proofs.Common.{Bool, true, false, IsTrue, List, [], ◌∷◌, map, ◌≡◌, refl, ap, MatchBool, rules}
 use Rattle.std.specs.Prelude.{ℤ, ℕ, pos, ◌<ℤ◌, ◌↔◌}
 use Rattle.sv_cert.specs.PlainLogs.{plain_monomial}
 use Rattle.sv_lin.proofs.work.is_absurd.Goals as goal

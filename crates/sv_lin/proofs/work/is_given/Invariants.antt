@@ -1,7 +1,6 @@
 use Rattle.std.proofs.Common.{drop, map}
 use Rattle.std.specs.List.{Contains}
 use Rattle.sv_cert.specs.PlainLogs.{plain_row}
-use Rattle.sv_lin.specs.UnderWay.{row_made}
 use Rattle.sv_lin.proofs.work.is_given.Given as goal
 
 abbrev pub invariant-loop-other : goal.invariant-loop-other

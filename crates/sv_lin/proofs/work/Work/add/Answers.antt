@@ -1,13 +1,12 @@
-use Rattle.std.proofs.Common.{ℕ, ◌+◌, ◌/◌, ◌<◌, ◌≤◌, ◌≡◌, List, [], ◌∷◌, ◌++◌, map, length, refl, sym, ap, ap₂, ◌∙◌, subst, arith}
+use Rattle.std.proofs.Common.{ℕ, ◌+◌, ◌/◌, ◌≡◌, List, [], ◌∷◌, ◌++◌, length, sym, ap, ap₂, ◌∙◌, subst, arith}
 use Rattle.std.proofs.lemmas.List.{map-append, length-map}
-use Rattle.sv_log.specs.LogEntries.{Row, Entry, cost_of, cost_of_log, cost_of_row}
-use Rattle.sv_log.specs.Logs.{Bound, IsAbsurd}
+use Rattle.sv_log.specs.LogEntries.{cost_of, cost_of_log}
 use Rattle.sv_cert.specs.declared.log.Row.{Row as CodeRow}
 use Rattle.sv_cert.specs.PlainLogs.{plain_row, plain_monomial}
-use Rattle.sv_lin.specs.Eliminations.{in_force, IsContradiction, IsSpent}
+use Rattle.sv_lin.specs.Eliminations.{IsContradiction, IsSpent}
 use Rattle.sv_lin.specs.declared.made.Made.{Made}
 use Rattle.sv_lin.specs.declared.made.Origin.{Origin}
-use Rattle.sv_lin.specs.UnderWay.{entry_by, entry_made, entries_of, IsUnderWay, IsStep}
+use Rattle.sv_lin.specs.UnderWay.{entry_by, entry_made, entries_of, IsUnderWay}
 use Rattle.sv_lin.proofs.Entering.{cost_push, contradicts, spends, goes_on}
 use Rattle.sv_lin.proofs.Forces.{adds, cost_by}
 use Rattle.sv_lin.proofs.work.Work.add.Goals as goal

@@ -1,4 +1,4 @@
-use Rattle.std.proofs.Common.{arith, ◌∙◌, sym}
+use Rattle.std.proofs.Common.{arith}
 use Rattle.sv_lin.proofs.Forces.{length_force, get_given, get_made}
 use Rattle.sv_lin.proofs.work.Work.row.Goals as goal
 
