@@ -8,21 +8,25 @@ pub fn row_of(alloc: Global, text: &str) -> Result<Option<Row>, NoMemory> {
     let Some(rest) = text.strip_prefix("row ") else {
         return Ok(None);
     };
-    let mut words = rest.split(' ');
-    let constant = number(words.next());
+    let mut constant = None;
+    let mut factor = None;
     let mut parts = Vec::new(alloc);
-    let mut next = words.next();
-    while let Some(word) = next {
-        let column = words.next().unwrap_or("").parse::<usize>().unwrap_or(0);
-        parts.push((number(Some(word)), column))?;
-        next = words.next();
+    for word in rest.split(' ') {
+        if constant.is_none() {
+            constant = Some(number(word));
+        } else if let Some(before) = factor {
+            parts.push((before, word.parse::<usize>().unwrap_or(0)))?;
+            factor = None;
+        } else {
+            factor = Some(number(word));
+        }
     }
     Ok(Some(Row {
-        constant,
+        constant: constant.unwrap_or(0),
         parts: Items::from_vec(parts),
     }))
 }
 
-fn number(word: Option<&str>) -> i128 {
-    word.unwrap_or("").parse::<i128>().unwrap_or(0)
+fn number(word: &str) -> i128 {
+    word.parse::<i128>().unwrap_or(0)
 }
