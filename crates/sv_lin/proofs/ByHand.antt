@@ -141,7 +141,7 @@ no_point es ps h =
 
 -- ---- x <= 0
 
-zero_reduced : IsReduced (ratio (pos 0) (pos 1))
+pub zero_reduced : IsReduced (ratio (pos 0) (pos 1))
 zero_reduced = record { positive = omega (arith, ints); lowest = λ d a b. one d b }
   where
     one : (d : ℕ) → d ∣ 1 → d ≡ 1

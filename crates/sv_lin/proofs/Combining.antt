@@ -11,7 +11,7 @@ use Rattle.sv_row.specs.SumSteps.{FitsBoth}
 use Rattle.sv_lin.specs.Eliminations.{ExceedsCombination}
 use Rattle.sv_lin.specs.CancellingRows.{row_by, CanCancel}
 
-greatest_last : (ps : List Monomial) (p : Monomial) → greatest (ps ++ p ∷ []) ≡ Some p
+pub greatest_last : (ps : List Monomial) (p : Monomial) → greatest (ps ++ p ∷ []) ≡ Some p
 greatest_last [] p = refl
 greatest_last (q ∷ []) p = refl
 greatest_last (q ∷ s ∷ ps) p = greatest_last (s ∷ ps) p

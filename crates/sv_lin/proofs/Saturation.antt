@@ -12,7 +12,8 @@ use Rattle.sv_point.specs.NearestPoints.{AreBelow, IsRowOf}
 use Rattle.sv_row.specs.RowParts.{AreAbove, AreRising}
 use Rattle.sv_row.specs.SumSteps.{part}
 use Rattle.sv_row.proofs.Sums.{above_more, front, past_all, onto, above_parts, above_times}
-use Rattle.sv_lin.specs.Completeness.{AreNonZero, IsFormed, AreFormed, AreComplete, CompleteAreSaturated}
+use Rattle.sv_lin.specs.Eliminations.{AreNonZero, IsFormed, AreFormed}
+use Rattle.sv_lin.specs.Completeness.{AreComplete, CompleteAreSaturated}
 
 -- ---- a sum in either order
 

@@ -1,5 +1,10 @@
-pub mod Eliminations
-pub mod Renumbering
-pub mod Completeness
-pub mod WorkedRows
+pub mod Assembling
 pub mod CancellingRows
+pub mod Completeness
+pub mod EliminationAnswers
+pub mod Eliminations
+pub mod Holding
+pub mod Placing
+pub mod Renumbering
+pub mod UnderWay
+pub mod WorkedRows

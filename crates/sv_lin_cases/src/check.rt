@@ -1,0 +1,46 @@
+ghost use Rattle.std.specs.Prelude.{map, IsTrue};
+ghost use Rattle.sv_row.specs.RowParts.{monomials, AreAbove, AreRising};
+ghost use Rattle.sv_cert.specs.PlainLogs.{plain_row};
+ghost use Rattle.sv_lin.specs.Eliminations.{AreNonZero, AreFormed};
+
+use sv_cert::Row;
+
+/// Whether in each row the columns rise and no number is 0.
+pub fn are_formed(rows: &[Row]) -> bool
+    ensures { IsTrue result → AreFormed (map plain_row rows.now) }
+{
+    for row in rows {
+        if !is_formed(row.parts.as_slice()) {
+            return false;
+        }
+    }
+    true
+}
+
+fn is_formed(parts: &[(i128, usize)]) -> bool
+    ensures { IsTrue result → AreRising (monomials parts.now) × AreNonZero (monomials parts.now) }
+{
+    match parts.split_first() {
+        None => true,
+        Some((&(factor, column), rest)) => {
+            if factor == 0 {
+                return false;
+            }
+            if !is_before(column, rest) {
+                return false;
+            }
+            is_formed(rest)
+        }
+    }
+}
+
+/// Whether the column is below the first of the parts.
+fn is_before(column: usize, parts: &[(i128, usize)]) -> bool
+    ensures { IsTrue result → AreRising (monomials parts.now)
+        → AreAbove column (monomials parts.now) }
+{
+    match parts.split_first() {
+        None => true,
+        Some((&(_factor, next), _)) => column < next,
+    }
+}
