@@ -140,7 +140,8 @@ impl InForce {
 
     fn is_row(&self, place: usize, constant: i128, parts: &[(i128, usize)]) -> bool
         requires { place < length self.now.items }
-        ensures { IsTrue result ↔ (slice_get self.now.items place ≡ Some (RowOf (row constant (monomials parts.now)))) }
+        ensures { IsTrue result
+            ↔ (slice_get self.now.items place ≡ Some (RowOf (row constant (monomials parts.now)))) }
     {
         match self.row(place) {
             Some((own_constant, own_parts)) => own_constant == constant

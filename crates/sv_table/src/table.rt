@@ -106,7 +106,8 @@ impl Table {
 
     fn pop(&mut self)
         requires { 0 < length self.old.codes }
-        ensures { self.new ≡ places (take (length self.old.codes - 1) self.old.codes) self.old.room }
+        ensures { self.new
+            ≡ places (take (length self.old.codes - 1) self.old.codes) self.old.room }
     {
         let code = self.codes.pop().unwrap();
         let link = self.links.pop().unwrap();
