@@ -1,0 +1,3 @@
+pub mod ExprViews
+pub mod StmtViews
+pub mod Sizes

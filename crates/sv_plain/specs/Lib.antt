@@ -1,0 +1,4 @@
+pub mod PlainExprs
+pub mod ExprFolds
+pub mod PlainStmts
+pub mod ShownExprs
