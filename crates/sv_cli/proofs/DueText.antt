@@ -3,8 +3,8 @@ use Rattle.std.proofs.Common.{◌≡◌, ℕ, ◌+◌, List, [], ◌∷◌, leng
 use Rattle.std.proofs.lemmas.List.{length-map, length-append}
 use Rattle.sv_cli.specs.Due.{IsDue, Means}
 use Rattle.sv_cli.specs.Due.IsDue.{IsReported}
-use Rattle.sv_cli.specs.Report.{Reports}
-use Rattle.sv_cli.specs.declared.ended.Ended.{Ended}
+use Rattle.sv_report.specs.Report.{Reports}
+use Rattle.sv_report.specs.declared.ended.Ended.{Ended}
 use Rattle.sv_first_form.specs.declared.contract.Contract.{Contract}
 use Rattle.sv_first_form.specs.declared.contract.Equation.{Equation}
 use Rattle.sv_first_judge.specs.Judging.{AreVerdicts, Judged, judged_of, judged_function, known_at_entry}

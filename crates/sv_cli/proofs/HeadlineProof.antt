@@ -9,12 +9,12 @@ use Rattle.sv_cli.specs.Answered.{IsReadTo, IsDueFrom}
 use Rattle.sv_cli.specs.Due.{IsDue}
 use Rattle.sv_cli.specs.Due.IsDue.{IsError, IsReported}
 use Rattle.sv_cli.specs.Headline.{HasLine, IsSafeFor, HoldsTruly}
-use Rattle.sv_cli.specs.Moved.{IsWritten, IsCutShort}
-use Rattle.sv_cli.specs.Refusals.{error_text, kind_text, place_of}
-use Rattle.sv_cli.specs.Report.{lines_text, last_text}
-use Rattle.sv_cli.specs.declared.ended.Ended.{Ended}
-use Rattle.sv_cli.specs.declared.refusal.Refusal.{Refusal}
-use Rattle.sv_cli.specs.declared.refusal.Refusal.TheVariants.{Long, Char, Unclosed, Many, Out, Deep, Syntax, Unbuilt}
+use Rattle.sv_io.specs.Moved.{IsWritten, IsCutShort}
+use Rattle.sv_report.specs.Refusals.{error_text, kind_text, place_of}
+use Rattle.sv_report.specs.Report.{lines_text, last_text}
+use Rattle.sv_report.specs.declared.ended.Ended.{Ended}
+use Rattle.sv_report.specs.declared.refusal.Refusal.{Refusal}
+use Rattle.sv_report.specs.declared.refusal.Refusal.TheVariants.{Long, Char, Unclosed, Many, Out, Deep, Syntax, Unbuilt}
 use Rattle.sv_first_form.specs.FirstForm.{IsName, IsContract}
 use Rattle.sv_first_form.specs.declared.contract.Contract.{Contract}
 use Rattle.sv_first_form.specs.declared.contract.Function.{Function}

@@ -1,10 +1,8 @@
 pub mod Cuts
 pub mod DueText
-pub mod GivenCalls
 pub mod HeadlineProof
 pub mod Lines
 pub mod OneDue
 pub mod OneVerdict
 pub mod ReadText
-pub mod ReportLines
 pub mod TextLimit

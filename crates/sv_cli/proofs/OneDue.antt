@@ -6,13 +6,13 @@ use Rattle.sv_cli.proofs.OneVerdict.{one_report}
 use Rattle.sv_cli.specs.Due.{HasTokens, HasPlainTokens, HasForm, Means, IsDue, IsRefused}
 use Rattle.sv_cli.specs.Due.IsDue.{IsError, IsReported}
 use Rattle.sv_cli.specs.Due.IsRefused.{IsLong, HasChar, IsUnclosed, HasMany, HasOut, HasDeep, HasNoTree, IsUnbuilt}
-use Rattle.sv_cli.specs.Refusals.{error_text}
-use Rattle.sv_cli.specs.Report.{Reports}
+use Rattle.sv_report.specs.Refusals.{error_text}
+use Rattle.sv_report.specs.Report.{Reports}
 use Rattle.sv_cli.specs.TextTrees.{HasTree, IsTreeless, BeginsTree, place_behind}
-use Rattle.sv_cli.specs.declared.ended.Ended.{Ended}
-use Rattle.sv_cli.specs.declared.ended.Ended.TheVariants.{Refused}
-use Rattle.sv_cli.specs.declared.refusal.Refusal.{Refusal}
-use Rattle.sv_cli.specs.declared.refusal.Refusal.TheVariants.{Long, Char, Unclosed, Many, Out, Deep, Syntax, Unbuilt}
+use Rattle.sv_report.specs.declared.ended.Ended.{Ended}
+use Rattle.sv_report.specs.declared.ended.Ended.TheVariants.{Refused}
+use Rattle.sv_report.specs.declared.refusal.Refusal.{Refusal}
+use Rattle.sv_report.specs.declared.refusal.Refusal.TheVariants.{Long, Char, Unclosed, Many, Out, Deep, Syntax, Unbuilt}
 use Rattle.sv_first_form.specs.declared.contract.Contract.{Contract}
 use Rattle.sv_lex.proofs.TokenLaws.{list_is_one, fault_excludes_list, fault_is_one}
 use Rattle.sv_lex.specs.Faults.{FirstFault}

@@ -2,9 +2,9 @@
 use Rattle.std.proofs.Common.{◌≡◌, ℕ, suc, ◌+◌, List, [], ◌∷◌, ◌++◌, All, length, if◌then◌else◌, refl, sym, ap, subst, ◌∙◌}
 use Rattle.std.specs.List.{list_all}
 use Rattle.std.proofs.lemmas.List.Elements.{All-head, All-tail}
-use Rattle.sv_cli.specs.Report.{Reports, report_text}
-use Rattle.sv_cli.specs.declared.ended.Ended.{Ended}
-use Rattle.sv_cli.specs.declared.ended.Ended.TheVariants.{Holds, Unheld}
+use Rattle.sv_report.specs.Report.{Reports, report_text}
+use Rattle.sv_report.specs.declared.ended.Ended.{Ended}
+use Rattle.sv_report.specs.declared.ended.Ended.TheVariants.{Holds, Unheld}
 use Rattle.sv_first_form.specs.declared.contract.Contract.{Contract}
 use Rattle.sv_first_form.specs.declared.contract.Equation.{Equation}
 use Rattle.sv_first_judge.specs.Judging.{Known, Judged, judged_of, IsProved, IsVerdict, AreVerdicts}

@@ -7,8 +7,8 @@ use Rattle.sv_cli.specs.TextTrees.{HasTree, IsTreeless, BeginsTree, place_behind
 use Rattle.sv_cli.specs.Unread.{GivesNoTree, GivesRefusal, IsUnread, from_lex, from_form}
 use Rattle.sv_cli.specs.declared.due.Unread.{Unread}
 use Rattle.sv_cli.specs.declared.due.Unread.TheVariants as unread
-use Rattle.sv_cli.specs.declared.refusal.Refusal.{Refusal}
-use Rattle.sv_cli.specs.declared.refusal.Refusal.TheVariants as refusal
+use Rattle.sv_report.specs.declared.refusal.Refusal.{Refusal}
+use Rattle.sv_report.specs.declared.refusal.Refusal.TheVariants as refusal
 use Rattle.sv_first_form.specs.FirstForm.{StandsFor}
 use Rattle.sv_first_form.specs.FormSymbols.{Symbol, symbol, symbol_of}
 use Rattle.sv_first_form.specs.declared.contract.Contract.{Contract}

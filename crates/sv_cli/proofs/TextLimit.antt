@@ -5,11 +5,11 @@ use Rattle.sv_cli.specs.Answered.{IsDueFrom, IsDueWithin}
 use Rattle.sv_cli.specs.Due.{IsDue, IsRefused}
 use Rattle.sv_cli.specs.Due.IsDue.{IsError, IsReported}
 use Rattle.sv_cli.specs.Due.IsRefused.{IsLong, HasChar, IsUnclosed, HasMany, HasOut, HasDeep, HasNoTree, IsUnbuilt}
-use Rattle.sv_cli.specs.Moved.{ReadsUpTo}
-use Rattle.sv_cli.specs.Refusals.{error_text}
-use Rattle.sv_cli.specs.declared.ended.Ended.{Ended}
-use Rattle.sv_cli.specs.declared.refusal.Refusal.{Refusal}
-use Rattle.sv_cli.specs.declared.refusal.Refusal.TheVariants.{Long}
+use Rattle.sv_io.specs.Moved.{ReadsUpTo}
+use Rattle.sv_report.specs.Refusals.{error_text}
+use Rattle.sv_report.specs.declared.ended.Ended.{Ended}
+use Rattle.sv_report.specs.declared.refusal.Refusal.{Refusal}
+use Rattle.sv_report.specs.declared.refusal.Refusal.TheVariants.{Long}
 use Rattle.sv_lex.specs.Lexing.{limit}
 
 -- a front that is no longer than the limit is the whole text

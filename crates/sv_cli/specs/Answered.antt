@@ -3,9 +3,9 @@ use Rattle.std.specs.Prelude.{◌≡◌, ℕ, ◌+◌, ◌≤◌, ◌⊎◌, Lis
 use Rattle.std.specs.declared.option.Option.{Option}
 use Rattle.std.specs.declared.alloc.Global.{Global}
 use Rattle.sv_cli.specs.Due.{IsDue}
-use Rattle.sv_cli.specs.Moved.{IsWritten, IsCutShort, GivesPieces}
-use Rattle.sv_cli.specs.declared.ended.Ended.{Ended}
-use Rattle.sv_cli.specs.declared.ended.Ended.TheVariants.{Holds, Unheld, Refused}
+use Rattle.sv_io.specs.Moved.{IsWritten, IsCutShort, GivesPieces}
+use Rattle.sv_report.specs.declared.ended.Ended.{Ended}
+use Rattle.sv_report.specs.declared.ended.Ended.TheVariants.{Holds, Unheld, Refused}
 use Rattle.sv_io.specs.Calls.{Putting}
 use Rattle.sv_io.specs.Moves.{Rose}
 use Rattle.sv_lex.specs.Lexing.{limit}

@@ -1,11 +1,11 @@
 -- Believed: what is due for a text, its error line or the report of the contract that it stands for. Hold it against docs/report.md.
 use Rattle.std.specs.Prelude.{◌≡◌, ℕ, ◌<◌, ◌≤◌, List, ◌∷◌, ◌++◌, length, map}
-use Rattle.sv_cli.specs.Refusals.{error_text}
-use Rattle.sv_cli.specs.Report.{Reports}
-use Rattle.sv_cli.specs.declared.ended.Ended.{Ended}
-use Rattle.sv_cli.specs.declared.ended.Ended.TheVariants.{Refused}
-use Rattle.sv_cli.specs.declared.refusal.Refusal.{Refusal}
-use Rattle.sv_cli.specs.declared.refusal.Refusal.TheVariants.{Long, Char, Unclosed, Many, Out, Deep, Syntax, Unbuilt}
+use Rattle.sv_report.specs.Refusals.{error_text}
+use Rattle.sv_report.specs.Report.{Reports}
+use Rattle.sv_report.specs.declared.ended.Ended.{Ended}
+use Rattle.sv_report.specs.declared.ended.Ended.TheVariants.{Refused}
+use Rattle.sv_report.specs.declared.refusal.Refusal.{Refusal}
+use Rattle.sv_report.specs.declared.refusal.Refusal.TheVariants.{Long, Char, Unclosed, Many, Out, Deep, Syntax, Unbuilt}
 use Rattle.sv_cli.specs.TextTrees.{HasTree, IsTreeless, BeginsTree, place_behind}
 use Rattle.sv_first_form.specs.FirstForm.{StandsFor}
 use Rattle.sv_first_form.specs.FormSymbols.{symbol_of}

@@ -1,7 +1,7 @@
 -- Believed: what the law `due_is_one` says: one answer is due for a text. Hold it against docs/report.md.
 use Rattle.std.specs.Prelude.{◌≡◌, ℕ, List}
 use Rattle.sv_cli.specs.Due.{IsDue}
-use Rattle.sv_cli.specs.declared.ended.Ended.{Ended}
+use Rattle.sv_report.specs.declared.ended.Ended.{Ended}
 
 -- what is due for a text is one: the bytes and the ending are functions of the text
 abbrev pub DueIsOne : Type 0

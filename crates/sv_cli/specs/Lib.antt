@@ -1,12 +1,7 @@
-pub mod Status
-pub mod Report
-pub mod Refusals
 pub mod TextTrees
 pub mod Due
-pub mod Moved
 pub mod Answered
 pub mod Headline
 pub mod DueLaw
 pub mod KeywordLaw
 pub mod Unread
-pub mod Moving

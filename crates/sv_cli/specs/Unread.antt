@@ -4,8 +4,8 @@ use Rattle.sv_cli.specs.Due.{IsRefused}
 use Rattle.sv_cli.specs.TextTrees.{IsTreeless, BeginsTree, place_behind}
 use Rattle.sv_cli.specs.declared.due.Unread.{Unread}
 use Rattle.sv_cli.specs.declared.due.Unread.TheVariants.{Refused, NoMemory}
-use Rattle.sv_cli.specs.declared.refusal.Refusal.{Refusal}
-use Rattle.sv_cli.specs.declared.refusal.Refusal.TheVariants as refusal
+use Rattle.sv_report.specs.declared.refusal.Refusal.{Refusal}
+use Rattle.sv_report.specs.declared.refusal.Refusal.TheVariants as refusal
 use Rattle.sv_first_form.specs.declared.form_error.FormError.{FormError}
 use Rattle.sv_first_form.specs.declared.form_error.FormError.TheVariants as form
 use Rattle.sv_lex.specs.Lexing.{GivesFirst, Scanned}

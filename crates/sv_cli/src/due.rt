@@ -1,14 +1,11 @@
 ghost use Rattle.std.specs.Prelude.{◌≡◌, IfOk, MatchResult};
 ghost use Rattle.sv_cli.specs.Due.{IsDue, Means};
-ghost use Rattle.sv_cli.specs.Report.{Reports};
+ghost use Rattle.sv_report.specs.Report.{Reports};
 ghost use Rattle.sv_cli.specs.TextTrees.{HasTree};
 ghost use Rattle.sv_cli.specs.Unread.{GivesNoTree, GivesRefusal, IsUnread};
 ghost use Rattle.sv_first_form.specs.FirstForm.{IsContract};
 ghost use Rattle.sv_lex.specs.Limits.{HasNo, IsDeep};
 
-use crate::ended::Ended;
-use crate::refusal::{Refusal, error_line};
-use crate::report::{all_verified, report};
 use std::alloc::Global;
 use sv_first_form::parse::parse;
 use sv_first_form::{Contract, FormError};
@@ -16,6 +13,7 @@ use sv_first_judge::judge::judge;
 use sv_lex::{LexFault, Tokens, deep, lex, out_word};
 use sv_parse_expr::ParseFault;
 use sv_parse_unit::parse_unit;
+use sv_report::{Ended, Refusal, all_verified, error_line, report};
 use sv_text::{Names, NoMemory};
 use thiserror::Error;
 

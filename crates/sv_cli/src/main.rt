@@ -2,18 +2,14 @@
 //!
 //! Promises: `top::solsv`, which does all that the program does but for making the adapters and the book. Its clauses say what was read,
 //! what is written and how the program ends, for every source and every sink.
-//! Stands on: `sv_lex` for tokens, `sv_parse_unit` for trees, `sv_first_form` for contracts, `sv_first_judge` for verdicts, `sv_io` for where
-//! bytes come from and go, and `sv_text`, `sv_grammar`, `sv_ast`, `sv_parse_expr`, `sv_term`.
+//! Stands on: `sv_lex` for tokens, `sv_parse_unit` for trees, `sv_first_form` for contracts, `sv_first_judge` for verdicts, `sv_report` for
+//! what is written, `sv_io` for where bytes come from and go, and `sv_text`, `sv_grammar`, `sv_ast`, `sv_parse_expr`, `sv_term`.
 //! Read first: `specs/Answered.antt` and `specs/Due.antt`, then `src/top.rt`.
 #![tactic(auto)]
 
 mod due;
-mod ended;
 mod laws;
-mod moving;
 mod reading;
-mod refusal;
-mod report;
 mod top;
 mod words;
 
@@ -34,6 +30,3 @@ fn main(rt: HostRuntime) -> ExitCode {
     };
     ExitCode::from(ended.status())
 }
-
-#[cfg(test)]
-mod tests;

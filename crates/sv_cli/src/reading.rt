@@ -3,14 +3,13 @@
 ghost use Rattle.std.specs.Prelude.{◌≡◌, ◌≢◌, ◌+◌, ◌≤◌, IfOk, IsErrOf};
 ghost use Rattle.sv_io.specs.Moves.{Rose};
 ghost use Rattle.sv_cli.specs.Answered.{IsDueFrom};
-ghost use Rattle.sv_cli.specs.Moved.{GivesRooms};
+ghost use Rattle.sv_io.specs.Moved.{GivesRooms};
 ghost use Rattle.sv_lex.specs.Lexing.{limit};
 
 use crate::due::due;
-use crate::ended::Ended;
-use crate::moving::{ReadError, read_up_to};
 use std::alloc::Global;
-use sv_io::Source;
+use sv_io::{ReadError, Source, read_up_to};
+use sv_report::Ended;
 
 /// What is due by what a source gives, and how the program ends where it is written.
 pub fn due_from<S: Source>(

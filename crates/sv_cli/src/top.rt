@@ -2,14 +2,13 @@ ghost use Rattle.std.specs.Prelude.{◌≡◌, ◌+◌, ◌≤◌, ◌⊎◌, �
 ghost use Rattle.sv_io.specs.Moves.{Rose};
 ghost use Rattle.sv_cli.specs.Answered.{Answered, IsCut, IsDueWithin, IsListed, IsWhole, Sank, texts};
 ghost use Rattle.sv_cli.specs.Headline.{HoldsTruly};
-ghost use Rattle.sv_cli.specs.Moved.{GivesRooms};
+ghost use Rattle.sv_io.specs.Moved.{GivesRooms};
 ghost use Rattle.sv_lex.specs.Lexing.{limit};
 
-use crate::ended::Ended;
-use crate::moving::{ReadError, put_all};
 use crate::reading::due_from;
 use std::alloc::Global;
-use sv_io::{Sink, Source};
+use sv_io::{ReadError, Sink, Source, put_all};
+use sv_report::Ended;
 use sv_term::RuleBook;
 
 /// The most bytes of a text.

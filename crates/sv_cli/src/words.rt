@@ -1,9 +1,9 @@
 ghost use Rattle.std.specs.Prelude.{◌≡◌, ◌≢◌, drop};
 ghost use Rattle.std.specs.declared.io.ErrorKind.TheVariants.{OutOfMemory};
-ghost use Rattle.sv_cli.specs.declared.ended.Ended.TheVariants.{NoMemory, Usage};
+ghost use Rattle.sv_report.specs.declared.ended.Ended.TheVariants.{NoMemory, Usage};
 
-use crate::ended::Ended;
 use std::{env, io};
+use sv_report::Ended;
 
 /// The words behind the first, which is the program's own name.
 fn behind_name(mut words: Vec<String>) -> Vec<String>

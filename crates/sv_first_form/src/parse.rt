@@ -75,6 +75,3 @@ fn split_at_contract<'t, 'a>(tokens: &'t [Token<'a>]) -> Option<(&'t [Token<'a>]
     }
     None
 }
-
-#[cfg(test)]
-mod tests;

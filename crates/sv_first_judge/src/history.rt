@@ -216,6 +216,3 @@ pub fn marks(
     }
     Ok(marks)
 }
-
-#[cfg(test)]
-mod tests;

@@ -12,15 +12,13 @@
 mod adapters;
 mod mem_sink;
 mod mem_source;
-#[cfg(test)]
-mod recording;
+mod moving;
 mod sink;
 mod source;
-#[cfg(test)]
-mod tests;
 
 pub use adapters::{StdSink, StdSource};
 pub use mem_sink::MemSink;
 pub use mem_source::MemSource;
+pub use moving::{ReadError, SinkFailed, put_all, read_up_to};
 pub use sink::{Put, Sink};
 pub use source::{Source, Taken};

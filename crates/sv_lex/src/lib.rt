@@ -32,6 +32,3 @@ pub use nesting::deep;
 pub use tok::Tok;
 pub use token::Token;
 pub use tokens::Tokens;
-
-#[cfg(test)]
-mod tests;

@@ -11,8 +11,3 @@ mod parse;
 
 pub use lines::read_note;
 pub use parse::read_notes;
-
-#[cfg(test)]
-mod expr_tests;
-#[cfg(test)]
-mod tests;

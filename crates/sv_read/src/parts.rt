@@ -180,10 +180,7 @@ pub fn with<X: Drop, Y>(held: X, read: Result<Y, ParseError>) -> Result<(X, Y), 
     ensures reads { (tree : Y → Tree) (a : Part Side) (old new : Here) → Reads tree a old read new → Reads (λ p. tree p.1) a old result new }
     ensures holds { IfOk result (λ p. p.0 ≡ held) }
 {
-    match read {
-        Ok(y) => Ok((held, y)),
-        Err(e) => Err(e),
-    }
+    Ok((held, read?))
 }
 
 /// What the rule of a side reads, and where it lies.

@@ -1,5 +1,5 @@
 use Rattle.std.proofs.Common.{ℕ, ◌<◌, List, length, subst}
-use Rattle.sv_cli.specs.Moved.{IsWritten, IsCutShort}
+use Rattle.sv_io.specs.Moved.{IsWritten, IsCutShort}
 use Rattle.sv_cli.proofs.HeadlineProof.{nothing_written, all_written, part_written}
 use Rattle.sv_cli.proofs.TextLimit.{room_missing}
 use Rattle.sv_cli.proofs.top.solsv.Goals as goal
