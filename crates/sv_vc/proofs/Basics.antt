@@ -7,9 +7,10 @@ use Rattle.sv_term.specs.Terms.{Shape, VarNode, ConstNode, Term, App, Terms, End
 use Rattle.sv_term.specs.Models.{Look, Model, meaning, value_by, values_by}
 use Rattle.sv_term.specs.Banks.{wide, all_wide}
 use Rattle.sv_term.proofs.Same.{both_true, and_true, or_true, sort_is, sort_self, term_is}
-use Rattle.sv_gcl.specs.Commands.{Store, in_store, var_sort, Suits}
+use Rattle.sv_gcl.specs.Commands.{Store, in_store, Suits}
 use Rattle.sv_gcl.specs.FormedCommands.{IsOver, AreOver}
 use Rattle.sv_vc.specs.Replacing.{replaced, all_replaced}
+pub use Rattle.sv_vc.specs.OpenTerms.{HasKinds}
 use Rattle.sv_vc.proofs.NodeSorts.{sort_alike, first_alike, fits_alike, flat_wide, num_wide}
 
 abbrev pub value : Term → Look → Value
@@ -38,10 +39,6 @@ or_right true b e = refl
 or_right false b e = e
 
 -- ---- replaced terms
-
--- each variable stands for a term of its sort
-abbrev pub HasKinds : List Sort → List Term → Type 0
-HasKinds vars env = (n : ℕ) → wide (sort_of (in_env env n)) ≡ wide (var_sort vars n)
 
 abbrev pub IsFlatOrPlain : Term → Type 0
 IsFlatOrPlain x = (is_flat (sort_of x) || is_plain x) ≡ true

@@ -181,7 +181,7 @@ module _ (vars : List Sort) where
         | false ↦ joint_kinds p (suc i) ts n (λ k. h (suc k) ∙ ap (λ j. wide (var_sort vars j)) (plus_next i k)) x ∙ ap (λ j. wide (var_sort vars j)) (sym (plus_next i x))
       ]
 
-  versions_kinds : (p : ℕ → Bool) (ts : List Term) (n : ℕ) → HasKinds vars ts → HasKinds vars (joint vars p 0 ts n)
+  pub versions_kinds : (p : ℕ → Bool) (ts : List Term) (n : ℕ) → HasKinds vars ts → HasKinds vars (joint vars p 0 ts n)
   versions_kinds p ts n h x = joint_kinds p 0 ts n (λ k. h k ∙ ap (λ j. wide (var_sort vars j)) (none_plus k)) x ∙ ap (λ j. wide (var_sort vars j)) (sym (none_plus x))
 
   mutual

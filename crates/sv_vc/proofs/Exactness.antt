@@ -30,7 +30,7 @@ site_self : (s : Site) → same_site s s ≡ true
 site_self (site.At p) = and_true (nat_eq p.line p.line) (nat_eq p.col p.col) (nat_same p.line p.line refl) (nat_same p.col p.col refl)
 site_self site.End = refl
 
-same_label_is : (l k : Label) → same_label l k ≡ true → l ≡ k
+pub same_label_is : (l k : Label) → same_label l k ≡ true → l ≡ k
 same_label_is l k e =
     let a = both_true (same_site l.site k.site) (nat_eq l.kind k.kind && (nat_eq l.number k.number && nat_eq l.of k.of)) e in
     let b = both_true (nat_eq l.kind k.kind) (nat_eq l.number k.number && nat_eq l.of k.of) a.1 in
@@ -42,7 +42,7 @@ label_self l =
     and_true (same_site l.site l.site) (nat_eq l.kind l.kind && (nat_eq l.number l.number && nat_eq l.of l.of)) (site_self l.site)
     (and_true (nat_eq l.kind l.kind) (nat_eq l.number l.number && nat_eq l.of l.of) (nat_same l.kind l.kind refl) (and_true (nat_eq l.number l.number) (nat_eq l.of l.of) (nat_same l.number l.number refl) (nat_same l.of l.of refl)))
 
-label_same : (l k : Label) → l ≡ k → same_label l k ≡ true
+pub label_same : (l k : Label) → l ≡ k → same_label l k ≡ true
 label_same l k e = subst (λ z. same_label l z ≡ true) e (label_self l)
 
 -- ---- conjunctions

@@ -2,3 +2,11 @@ pub mod Replacing
 pub mod Conjunctions
 pub mod ConditionWalk
 pub mod ConditionsExact
+pub mod NodeShapes
+pub mod OpenTerms
+pub mod CodeStates
+pub mod SetVariables
+pub mod JoinSteps
+pub mod Preparations
+pub mod Gatherings
+pub mod AnsweredConditions
