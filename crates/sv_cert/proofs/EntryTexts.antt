@@ -13,7 +13,7 @@ use Rattle.sv_log.specs.LogRows.{monomial, row}
 use Rattle.sv_cert.specs.LogText.{Word, name_of, sign_word, flag_word, part_word, part_words, monomial_words, row_words, words_of, IsIndex, IsPart, AreParts, AreIndexes, AreMonomials, IsRow, IsEntry}
 use Rattle.sv_cert.specs.LogReading.{◌>>=◌, numeral, index, integer, sign, flag, sort_in, each, first, ended, monomials, row_from, row_in, number_part, term_part, part_in, parts_in, all_kinds, kind_in, node_from, node_of, node_in, term_in, fact_from, fact_term, fact_sign, fact_in, linear_row, linear_sign, linear_in, combine_row, combine_second, combine_times, combine_first, combine_in, divide_row, divide_item, divide_in, split_end, split_in, clash_end, close_end, close_in, entry_by, entry_in}
 use Rattle.sv_cert.proofs.Numerals.{numeral_decimal, numeral_back, integer_decimal, integer_back, bind_some, bind_is}
-use Rattle.sv_cert.proofs.SortTexts.{sort_in_word, word_of_sort, ranges_of_sort}
+use Rattle.sv_cert.proofs.SortTexts.{sort_in_word, word_of_sort, ranges_of_sort, short_of_sort}
 
 -- ---- words
 
@@ -148,7 +148,7 @@ part_of_word SignSlot (FlagPart true) f h = bind_is (sign (codes "-")) false (λ
 part_of_word SignSlot (FlagPart false) f h = bind_is (sign (codes "+")) true (λ b. Some (FlagPart (not b))) (Some (FlagPart false)) (sign_of_word true) refl
 part_of_word FlagSlot (FlagPart b) f h = bind_is (flag (flag_word b)) b (λ b. Some (FlagPart b)) (Some (FlagPart b)) (flag_of_word b) refl
 part_of_word NumberSlot (NumberPart m) f h = bind_is (numeral (2 ^ 128) (decimal m)) m (λ m. Some (NumberPart m)) (Some (NumberPart m)) (numeral_decimal (2 ^ 128) m h (lit≤ tt)) refl
-part_of_word SortSlot (SortPart s) f h = bind_is (sort_in (part_word SortSlot (SortPart s))) s (λ s. Some (SortPart s)) (Some (SortPart s)) (sort_in_word s h) refl
+part_of_word SortSlot (SortPart s) f h = bind_is (sort_in (part_word SortSlot (SortPart s))) s (λ s. Some (SortPart s)) (Some (SortPart s)) (sort_in_word s h.0 h.1) refl
 part_of_word TermSlot (TermPart n) f h = bind_is (index (decimal n)) n (λ n. Some (TermPart n)) (Some (TermPart n)) (index_decimal n h) refl
 part_of_word TermsSlot (TermPart n) f h = bind_is (index (decimal n)) n (λ n. Some (TermPart n)) (Some (TermPart n)) (index_decimal n h) refl
 part_of_word x p f h = cc f
@@ -179,7 +179,7 @@ word_of_part NumberSlot w p e =
 word_of_part SortSlot w p e =
     let x = bind_some (sort_in w) (λ s. Some (SortPart s)) p e in
     let is : SortPart x.0 ≡ p = cc x.2 in
-    subst (Part_back SortSlot w) is (record { word = word_of_sort w x.0 x.1; fills_it = refl; within = ranges_of_sort w x.0 x.1 })
+    subst (Part_back SortSlot w) is (record { word = word_of_sort w x.0 x.1; fills_it = refl; within = (ranges_of_sort w x.0 x.1, short_of_sort w x.0 x.1) })
 word_of_part TermSlot w p e =
     let x = bind_some (index w) (λ n. Some (TermPart n)) p e in
     let b = index_back w x.0 x.1 in
@@ -198,10 +198,10 @@ each_term (p ∷ ps) f h =
     bind_is (term_part (part_word TermsSlot p)) p (λ a. each term_part (map (part_word TermsSlot) ps) >>= (λ rest. Some (a ∷ rest))) (Some (p ∷ ps)) (part_of_word TermsSlot p b.0 h.0)
     (bind_is (each term_part (map (part_word TermsSlot) ps)) ps (λ rest. Some (p ∷ rest)) (Some (p ∷ ps)) (each_term ps b.1 h.1) refl)
 
-record Parts_back (words : List Part → List Word) (fits : List Part → Bool) (ws : List Word) (ps : List Part) : Type 0 where
-  text : words ps ≡ ws
-  fits_it : fits ps ≡ true
-  within : AreParts ps
+pub record Parts_back (words : List Part → List Word) (fits : List Part → Bool) (ws : List Word) (ps : List Part) : Type 0 where
+  pub text : words ps ≡ ws
+  pub fits_it : fits ps ≡ true
+  pub within : AreParts ps
 
 term_each : (ws : List Word) (ps : List Part) → each term_part ws ≡ Some ps → Parts_back (map (part_word TermsSlot)) (list_all (fills TermsSlot)) ws ps
 term_each [] ps e =
@@ -265,7 +265,7 @@ more_back x xs ws ps back e =
       within = (i.within, r.within);
     }
 
-words_of_parts : (xs : List Slot) (ws : List Word) (ps : List Part) → parts_in xs ws ≡ Some ps → Parts_back (part_words xs) (fill xs) ws ps
+pub words_of_parts : (xs : List Slot) (ws : List Word) (ps : List Part) → parts_in xs ws ≡ Some ps → Parts_back (part_words xs) (fill xs) ws ps
 words_of_parts [] ws ps e =
     let x = ended_some ws [] ps e in
     subst (Parts_back (part_words []) (fill []) ws) x.1 (record { text = x.0; fits_it = refl; within = tt })

@@ -2,3 +2,9 @@ pub mod Numerals
 pub mod SortTexts
 pub mod EntryTexts
 pub mod LineTexts
+pub mod Readers
+pub mod Writers
+pub mod SortReaders
+pub mod NodeReaders
+pub mod KindReaders
+pub mod LogReaders

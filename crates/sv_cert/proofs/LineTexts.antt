@@ -95,7 +95,7 @@ name_clean SumKind = refl
 
 part_clean : (x : Slot) (p : Part) → IsPart p → is_clean (part_word x p) ≡ true
 part_clean x (TermPart n) h = index_clean n h
-part_clean x (SortPart s) h = sort_clean s h
+part_clean x (SortPart s) h = sort_clean s h.0
 part_clean x (NumberPart m) h = decimal_clean m (omega arith)
 part_clean SignSlot (FlagPart true) h = refl
 part_clean SignSlot (FlagPart false) h = refl
@@ -265,7 +265,7 @@ first_line_one (x ∷ a) (y ∷ b) c d f g e =
     let r = first_line_one a b c d t.1 u.1 j in
     (ap₂ (λ z zs. z ∷ zs) i r.0, r.1)
 
-line_more : (e : Entry) (more : List ℕ) → line_of e ++ more ≡ bare_line e ++ 10 ∷ more
+pub line_more : (e : Entry) (more : List ℕ) → line_of e ++ more ≡ bare_line e ++ 10 ∷ more
 line_more e more = append_assoc (bare_line e) (10 ∷ []) more
 
 -- two texts that begin with an entry's line each, and are one, begin with one entry

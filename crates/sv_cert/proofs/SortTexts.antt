@@ -1,18 +1,19 @@
 -- A sort and its text give each other.
-use Rattle.std.proofs.Common.{ℕ, zero, suc, ◌+◌, ◌^◌, ◌<◌, ◌≤◌, Bool, true, false, cond, ◌&&◌, nat_eq, List, [], ◌∷◌, ◌++◌, length, ◌≡◌, refl, sym, ap, ap₂, ◌∙◌, subst, arith, Option, None, Some, lit≤, append_assoc, append-nil}
+use Rattle.std.proofs.Common.{ℕ, zero, suc, ◌+◌, ◌^◌, ◌<◌, ◌≤◌, Bool, true, false, cond, not, ◌&&◌, nat_eq, nat_lt, List, [], ◌∷◌, ◌++◌, length, ◌≡◌, refl, sym, ap, ap₂, ◌∙◌, subst, arith, Option, None, Some, lit≤, append_assoc, append-nil}
 use Rattle.std.specs.Prelude.{codes}
 use Rattle.std.specs.Char.{is_ascii_digit}
 use Rattle.std.specs.Fmt.{decimal}
 use Rattle.std.specs.Str.{all_ascii_digits}
 use Rattle.sv_term.specs.Sorts.{Range, Any, Low, Bits, Sort, NumSort, BoolSort, ArrSort, TupSort, Sorts, NoSorts, SortAnd}
 use Rattle.sv_term.proofs.Same.{both_true, same_nat}
-use Rattle.sv_cert.specs.LogText.{Word, range_word, sort_word, sorts_word, HasRange, HasRanges, HaveRanges}
-use Rattle.sv_cert.specs.LogReading.{numeral, Open, InArray, InTuple, Reading, Wanted, Begun, Digits, Done, Refused, SortState, at, sorts_in, begin_sort, end_sort, bits_sort, sort_of_reading, end_of, step_at, step, run, none_open, sort_end, sort_in}
+use Rattle.sv_log.specs.LogEntries.{SortPart}
+use Rattle.sv_cert.specs.LogText.{Word, range_word, sort_word, sorts_word, is_short, HasRange, HasRanges, HaveRanges}
+use Rattle.sv_cert.specs.LogReading.{numeral, Open, InArray, InTuple, Reading, Wanted, Begun, Digits, Done, Refused, SortState, at, sorts_in, begin_sort, end_sort, bits_sort, sort_of_reading, end_of, step_at, step, run, none_open, sort_end, whole_sort, sort_in}
 use Rattle.sv_cert.proofs.Numerals.{numeral_decimal, numeral_back, all_digits_decimal}
 
 -- ---- from a sort to its text and back
 
-run_append : (st : SortState) (xs ys : Word) → run st (xs ++ ys) ≡ run (run st xs) ys
+pub run_append : (st : SortState) (xs ys : Word) → run st (xs ++ ys) ≡ run (run st xs) ys
 run_append st [] ys = refl
 run_append st (x ∷ xs) ys = run_append (step st x) xs ys
 
@@ -109,9 +110,9 @@ mutual
       ∙ (tuple_stands (SortAnd t ts) h.1 k (before ++ s ∷ [])
       ∙ ap (λ xs. at k (Done (TupSort (sorts_in xs)))) (append_assoc before (s ∷ []) (listed (SortAnd t ts))))))
 
-pub sort_in_word : (s : Sort) → HasRanges s → sort_in (sort_word s) ≡ Some s
-unfolding sort_in
-sort_in_word s h =
+whole_word : (s : Sort) → HasRanges s → whole_sort (sort_word s) ≡ Some s
+unfolding whole_sort
+whole_word s h =
     let e = sort_stands s h [] in
     ap (λ k. none_open k (sort_of_reading (run (at [] Wanted) (sort_word s)).reading)) e.brackets ∙ e.sort
 
@@ -136,7 +137,7 @@ reading_text Refused = []
 abbrev shown : SortState → Word
 shown st = bracket_text st.brackets ++ reading_text st.reading
 
-abbrev GoesOn : Reading → Type 0
+abbrev pub GoesOn : Reading → Type 0
 GoesOn Refused = ⊥
 GoesOn r = Unit {0}
 
@@ -233,7 +234,7 @@ went_on k Begun c h = tt
 went_on k (Digits g ds) c h = tt
 went_on k (Done s) c h = tt
 
-goes_before : (st : SortState) (w : Word) → GoesOn (run st w).reading → GoesOn st.reading
+pub goes_before : (st : SortState) (w : Word) → GoesOn (run st w).reading → GoesOn st.reading
 goes_before st [] h = h
 goes_before st (c ∷ w) h = went_on st.brackets st.reading c (goes_before (step st c) w h)
 
@@ -243,9 +244,9 @@ run_adds st (c ∷ w) h =
     run_adds (step st c) w h
     ∙ (ap (λ x. x ++ w) (step_adds st.brackets st.reading c (goes_before (step st c) w h)) ∙ append_assoc (shown st) (c ∷ []) w)
 
-pub word_of_sort : (w : Word) (s : Sort) → sort_in w ≡ Some s → sort_word s ≡ w
-unfolding sort_in
-word_of_sort w s e = go (run (at [] Wanted) w).brackets (run (at [] Wanted) w).reading refl refl e
+word_of_whole : (w : Word) (s : Sort) → whole_sort w ≡ Some s → sort_word s ≡ w
+unfolding whole_sort
+word_of_whole w s e = go (run (at [] Wanted) w).brackets (run (at [] Wanted) w).reading refl refl e
   where
     text : (r : Reading) → (run (at [] Wanted) w).brackets ≡ [] → (run (at [] Wanted) w).reading ≡ r → GoesOn r → reading_text r ≡ w
     text r b f g =
@@ -324,9 +325,9 @@ run_ranges : (st : SortState) (w : Word) → Ranges st → Ranges (run st w)
 run_ranges st [] h = h
 run_ranges st (c ∷ w) h = run_ranges (step st c) w (step_ranges st.brackets st.reading c h.0 h.1)
 
-pub ranges_of_sort : (w : Word) (s : Sort) → sort_in w ≡ Some s → HasRanges s
-unfolding sort_in
-ranges_of_sort w s e = go (run (at [] Wanted) w).brackets (run (at [] Wanted) w).reading (run_ranges (at [] Wanted) w (tt, tt)).1 e
+ranges_of_whole : (w : Word) (s : Sort) → whole_sort w ≡ Some s → HasRanges s
+unfolding whole_sort
+ranges_of_whole w s e = go (run (at [] Wanted) w).brackets (run (at [] Wanted) w).reading (run_ranges (at [] Wanted) w (tt, tt)).1 e
   where
     digits : (g : Bool) (ds : Word) (o : Option ℕ) → numeral (2 ^ 16) ds ≡ o → bits_sort g o ≡ Some s → HasRanges s
     digits g ds None n i = cc i
@@ -341,3 +342,31 @@ ranges_of_sort w s e = go (run (at [] Wanted) w).brackets (run (at [] Wanted) w)
     go [] (Digits g ds) h i = digits g ds (numeral (2 ^ 16) ds) refl i
     go [] (Done t) h i = let is : t ≡ s = cc i in subst HasRanges is h
     go [] Refused h i = cc i
+
+-- ---- sorts whose text isn't too long
+
+pub sort_in_word : (s : Sort) → HasRanges s → is_short (SortPart s) ≡ true → sort_in (sort_word s) ≡ Some s
+unfolding sort_in
+sort_in_word s h l = ap (λ b. cond b None (whole_sort (sort_word s))) (denied (nat_lt 10000 (length (sort_word s))) l) ∙ whole_word s h
+  where
+    denied : (b : Bool) → not b ≡ true → b ≡ false
+    denied true e = cc e
+    denied false e = refl
+
+-- a word that is read isn't too long
+pub whole_of_sort : (w : Word) (s : Sort) → sort_in w ≡ Some s → (nat_lt 10000 (length w) ≡ false) × (whole_sort w ≡ Some s)
+unfolding sort_in
+whole_of_sort w s e = go (nat_lt 10000 (length w)) refl e
+  where
+    go : (b : Bool) → nat_lt 10000 (length w) ≡ b → cond b None (whole_sort w) ≡ Some s → (nat_lt 10000 (length w) ≡ false) × (whole_sort w ≡ Some s)
+    go true f i = cc i
+    go false f i = (f, i)
+
+pub word_of_sort : (w : Word) (s : Sort) → sort_in w ≡ Some s → sort_word s ≡ w
+word_of_sort w s e = word_of_whole w s (whole_of_sort w s e).1
+
+pub ranges_of_sort : (w : Word) (s : Sort) → sort_in w ≡ Some s → HasRanges s
+ranges_of_sort w s e = ranges_of_whole w s (whole_of_sort w s e).1
+
+pub short_of_sort : (w : Word) (s : Sort) → sort_in w ≡ Some s → is_short (SortPart s) ≡ true
+short_of_sort w s e = ap (λ v. not (nat_lt 10000 (length v))) (word_of_sort w s e) ∙ ap not (whole_of_sort w s e).0

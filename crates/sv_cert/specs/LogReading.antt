@@ -147,8 +147,12 @@ none_open (o ∷ k) s = None
 abbrev pub sort_end : SortState → Option Sort
 sort_end st = none_open st.brackets (sort_of_reading st.reading)
 
+-- the sort that a word of any length stands for
+unfoldable pub whole_sort : Word → Option Sort
+whole_sort w = sort_end (run (at [] Wanted) w)
+
 unfoldable pub sort_in : Word → Option Sort
-sort_in w = sort_end (run (at [] Wanted) w)
+sort_in w = cond (nat_lt 10000 (length w)) None (whole_sort w)
 
 -- ---- the words of a line, each reader up to the line's end
 

@@ -1,6 +1,6 @@
 -- Believed: the text of a log. Hold it against the format in the README.
-use Rattle.std.specs.Prelude.{ℕ, Bool, true, false, cond, ◌+◌, ◌≤◌, ◌<◌, ◌^◌, List, [], ◌∷◌, ◌++◌, ◌≡◌, length, map, codes, ℤ}
-use Rattle.std.specs.List.{All, concat, join_with_byte}
+use Rattle.std.specs.Prelude.{ℕ, Bool, true, false, cond, not, nat_lt, ◌+◌, ◌≤◌, ◌<◌, ◌^◌, List, [], ◌∷◌, ◌++◌, ◌≡◌, length, map, codes, ℤ}
+use Rattle.std.specs.List.{All, concat, join_with_byte, list_all}
 use Rattle.std.specs.Fmt.{decimal, signed_decimal}
 use Rattle.sv_num.specs.Range.{IsI128}
 use Rattle.sv_term.specs.Sorts.{Range, Any, Low, Bits, Sort, NumSort, BoolSort, ArrSort, TupSort, Sorts, NoSorts, SortAnd}
@@ -120,9 +120,17 @@ abbrev mutual
 abbrev pub IsIndex : ℕ → Type 0
 IsIndex n = n < 2 ^ 64
 
+-- the text of a sort has at most 10,000 bytes, so that none nests deeper than 5,000
+abbrev pub is_short : Part → Bool
+is_short (SortPart s) = not (nat_lt 10000 (length (sort_word s)))
+is_short p = true
+
+abbrev pub are_short : List Part → Bool
+are_short ps = list_all is_short ps
+
 abbrev pub IsPart : Part → Type 0
 IsPart (TermPart n) = IsIndex n
-IsPart (SortPart s) = HasRanges s
+IsPart (SortPart s) = HasRanges s × (is_short (SortPart s) ≡ true)
 IsPart (NumberPart m) = m < 2 ^ 128
 IsPart (FlagPart b) = Unit {0}
 

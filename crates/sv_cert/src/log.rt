@@ -1,17 +1,20 @@
 ghost use Rattle.std.specs.Prelude.{◌≡◌, true, map};
 ghost use Rattle.sv_log.specs.LogEntries.{suits};
+ghost use Rattle.sv_cert.specs.LogText.{are_short};
 ghost use Rattle.sv_cert.specs.PlainNodes.{plain_kind, plain_part};
 
 use crate::kind::NodeKind;
 use crate::part::Part;
 use sqlite_items::Items;
 
-/// A node whose arguments are the numbers of terms. They are in the number and of the kinds that the node takes.
+/// A node whose arguments are the numbers of terms. They are in the number and of the kinds that the node takes, and a sort among them
+/// has a text of at most 10,000 bytes.
 #[derive(Drop)]
 pub struct LogNode {
     pub kind: NodeKind,
     pub parts: Items<Part>,
     pub ghost suited: { suits (plain_kind kind) (map plain_part parts) ≡ true },
+    pub ghost short: { are_short (map plain_part parts) ≡ true },
 }
 
 /// A row says that its constant and its numbers, each times its column, are at most 0 together.
