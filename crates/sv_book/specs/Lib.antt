@@ -1,0 +1,4 @@
+pub mod Walks
+pub mod Books
+pub mod Visits
+pub mod VisitLaws
