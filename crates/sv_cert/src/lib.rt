@@ -5,12 +5,14 @@
 //! Read first: `specs/LogText.antt`.
 #![tactic(auto)]
 
+mod excess;
 mod kind;
 pub mod laws;
 mod log;
 mod part;
 mod sort;
 
+pub use excess::Excess;
 pub use kind::{NodeKind, Slot};
 pub use log::{Entry, Log, LogNode, Row};
 pub use part::Part;
