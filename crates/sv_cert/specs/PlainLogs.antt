@@ -1,6 +1,7 @@
 -- Believed: the code's logs as plain data. Hold it against the types of the same names.
-use Rattle.std.specs.Prelude.{List, map, ℤ, ℕ}
+use Rattle.std.specs.Prelude.{List, map}
 use Rattle.sv_log.specs.LogEntries as l
+pub use Rattle.sv_log.specs.LogRows.{plain_monomial}
 use Rattle.sv_cert.specs.PlainNodes.{plain_kind, plain_part}
 use Rattle.sv_cert.specs.declared.log.LogNode.{LogNode}
 use Rattle.sv_cert.specs.declared.log.Row.{Row}
@@ -10,9 +11,6 @@ use Rattle.sv_cert.specs.declared.log.Log.{Log}
 
 abbrev pub plain_node : LogNode → l.LogNode
 plain_node node = record { kind = plain_kind node.kind; parts = map plain_part node.parts }
-
-abbrev pub plain_monomial : ℤ × ℕ → l.Monomial
-plain_monomial p = record { factor = p.0; column = p.1 }
 
 abbrev pub plain_row : Row → l.Row
 plain_row r = record { constant = r.constant; parts = map plain_monomial r.parts }

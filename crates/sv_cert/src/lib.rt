@@ -5,6 +5,7 @@
 //! Read first: `specs/LogText.antt`.
 #![tactic(auto)]
 
+mod excess;
 mod kind;
 pub mod laws;
 mod log;
@@ -15,6 +16,7 @@ mod sort;
 mod text;
 mod text_sort;
 
+pub use excess::Excess;
 pub use kind::{NodeKind, Slot};
 pub use log::{Entry, Log, LogNode, Row};
 pub use log_fault::LogFault;

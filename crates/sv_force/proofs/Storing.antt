@@ -6,8 +6,8 @@ use Rattle.std.proofs.lemmas.Slice.{between_is}
 use Rattle.std.proofs.lemmas.Option.{slice_get-map, slice_get_read}
 use Rattle.std.specs.Bool.{Decides}
 use Rattle.sv_log.specs.LogEntries.{Monomial, Row}
-use Rattle.sv_log.specs.LogRows.{row}
-use Rattle.sv_row.specs.RowParts.{monomials, monomial_of}
+use Rattle.sv_log.specs.LogRows.{plain_monomial, row}
+use Rattle.sv_row.specs.RowParts.{monomials}
 use Rattle.sv_force.specs.InForce.{Held, FactOn, RowOf, parts_of, parts_in, Force, force, IsFactAt, IsRowAt}
 use Rattle.sv_force.specs.Codes.{code_of}
 use Rattle.sv_force.specs.Slots.{held_of, numbered, IsSized, AreStacked, IsStored}
@@ -81,7 +81,7 @@ numbered_at ps ss place s e = slice_get-map (numbered ps) ss place ∙ ap (λ x.
 parts_sized : (ps : Pairs) (kind : Kind) (x y : ℕ) → IsSized kind x y → y ≤ length ps → parts_of (held_of (slice_range ps x y) kind) + x ≡ y
 parts_sized ps (k.Fact sign term) x y e l = omega arith
 parts_sized ps (k.Row constant) x y e l =
-    let long : length (monomials (slice_range ps x y)) ≡ y - x = length-map (slice_range ps x y) monomial_of ∙ length-between ps x y l in
+    let long : length (monomials (slice_range ps x y)) ≡ y - x = length-map (slice_range ps x y) plain_monomial ∙ length-between ps x y l in
     omega (arith, long, e)
 
 pub parts_counted : (ps : Pairs) (a b : ℕ) (ss : List Slot) → AreStacked a ss b → b ≤ length ps → a + parts_in (map (numbered ps) ss) ≡ b
@@ -206,7 +206,7 @@ monomials_one [] [] e = refl
 monomials_one [] (q ∷ qs) e = absurd (cc)
 monomials_one (p ∷ ps) [] e = absurd (cc)
 monomials_one (p ∷ ps) (q ∷ qs) e =
-    let first : monomial_of p ≡ monomial_of q = cc in
+    let first : plain_monomial p ≡ plain_monomial q = cc in
     let rest : monomials ps ≡ monomials qs = cc in
     let one : p.0 ≡ q.0 = ap (λ (m : Monomial). m.factor) first in
     let two : p.1 ≡ q.1 = ap (λ (m : Monomial). m.column) first in

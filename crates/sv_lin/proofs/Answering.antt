@@ -12,7 +12,7 @@ use Rattle.sv_log.specs.LogEntries.{Row, Entry, columns}
 use Rattle.sv_log.specs.LogRows.{monomial}
 use Rattle.sv_log.specs.Logs.{Bound, IsAbsurd}
 use Rattle.sv_point.specs.NearestPoints.{IsRowOf}
-use Rattle.sv_lin.specs.Eliminations.{made, in_force, HaveNoAbsurd, AreEntriesOn, IsContradiction, Placed, IsColumnOf, AreFrom, IsNearestIn, IsPoint, IsExcess, IsExceedingValue, AreFormed, IsSpent, AreExceedingRows}
+use Rattle.sv_lin.specs.Eliminations.{made, in_force, AreDivided, HaveNoAbsurd, AreEntriesOn, IsContradiction, Placed, IsColumnOf, AreFrom, IsNearestIn, IsPoint, IsExcess, IsExceedingValue, AreFormed, IsSpent, AreExceedingRows}
 use Rattle.sv_lin.specs.Completeness.{AreComplete}
 use Rattle.sv_lin.specs.declared.place.Place.{Place}
 use Rattle.sv_term.specs.declared.node.TermId.{TermId}
@@ -20,7 +20,7 @@ use Rattle.sv_lin.specs.EliminationAnswers.{placed_by, IsAnswer}
 use Rattle.sv_lin.specs.Assembling.{IsPointBy, IsValueBy, AreSmall, StopsWith}
 use Rattle.sv_lin.specs.declared.answer.Eliminated.{Eliminated}
 use Rattle.sv_lin.specs.declared.answer.Eliminated.TheVariants as an
-use Rattle.sv_lin.specs.declared.answer.Excess.TheVariants as ex
+use Rattle.sv_cert.specs.declared.excess.Excess.TheVariants as ex
 use Rattle.sv_lin.proofs.ColumnLists.{take_all}
 use Rattle.sv_cert.specs.declared.log.Row.{Row as CodeRow}
 use Rattle.sv_cert.specs.declared.log.Entry.{Entry as CodeEntry}
@@ -103,7 +103,7 @@ module _ (rows : List Row) (limit : ℕ) (es : List Entry) (w : IsUnderWay rows 
   greatest_listed : (x : ℕ) (k : ℤ) (r : Row) → Contains (in_force rows es) r → IsRowOf x k r → Contains cs x
   greatest_listed x k r i t = each_last (Contains cs) t.lows (monomial k x) (subst (EachColumn (Contains cs)) t.is (of_columns r i))
 
-  module _ (complete : AreComplete (in_force rows es)) (ps : List Place) where
+  module _ (complete : AreComplete (in_force rows es)) (divided : AreDivided (in_force rows es)) (ps : List Place) where
     nearest_anywhere : ArePlaced (in_force rows es) cs ps → (x : ℕ) → IsNearestIn (in_force rows es) (point_of ps) x
     nearest_anywhere p x = (
       p.reduced x,
@@ -118,6 +118,7 @@ module _ (rows : List Row) (limit : ℕ) (es : List Entry) (w : IsUnderWay rows 
     is_point p = record {
       entries = w.entries;
       saturated = complete_saturated (in_force rows es) w.formed complete;
+      divided = divided;
       lists = record {
         rising = from_rises 0 (map placed ps) (subst (RiseFrom 0) (sym p.columns) c.rising);
         each = λ x. (λ i. ((c.each x).0 (subst (λ z. Contains z x) p.columns i), tt), λ h. subst (λ z. Contains z x) (sym p.columns) ((c.each x).1 h.0));
@@ -175,8 +176,8 @@ module _ (rows : List Row) (limit : ℕ) (es : List Entry) (w : IsUnderWay rows 
         nearest = λ x l. nearest_below x (subst (λ z. x < z) column_is l);
       }
 
-pub is_excess : (rows : List Row) (limit : ℕ) (es : List Entry) → IsUnderWay rows limit es → IsExcess rows es
-is_excess rows limit es w = record { entries = w.entries; none = w.none }
+pub is_excess : (rows : List Row) (limit : ℕ) (es : List Entry) → IsUnderWay rows limit es → AreDivided (in_force rows es) → IsExcess rows es
+is_excess rows limit es w d = record { entries = w.entries; divided = d; none = w.none }
 
 -- ---- entries as the code lists them
 
@@ -207,7 +208,7 @@ at_contradiction rows limit es G o e h = subst (Ends rows limit es G) e h
 pub at_spent : (rows : List Row) (limit : ℕ) (es : List Entry) (G : Type 0) (o : Outcome) → o ≡ out.Spent → Ends rows limit es G o → IsSpent rows limit es
 at_spent rows limit es G o e h = subst (Ends rows limit es G) e h
 
-pub at_exceeds : (rows : List Row) (limit : ℕ) (es : List Entry) (G : Type 0) (o : Outcome) (i j : ℕ) → o ≡ out.Exceeds i j → Ends rows limit es G o → IsUnderWay rows limit es × AreExceedingRows (in_force rows es) i j
+pub at_exceeds : (rows : List Row) (limit : ℕ) (es : List Entry) (G : Type 0) (o : Outcome) (i j : ℕ) → o ≡ out.Exceeds i j → Ends rows limit es G o → IsUnderWay rows limit es × AreExceedingRows (in_force rows es) i j × AreDivided (in_force rows es)
 at_exceeds rows limit es G o i j e h = subst (Ends rows limit es G) e h
 
 -- the number of a row in force is below 2^32
@@ -240,6 +241,9 @@ value_answers (Ok (an.Excess fs (ex.Value j qs))) rows es i ps h x v = λ limit.
   subst (λ z. IsExceedingValue rows z j (map placed_by qs)) (sym h.0) (subst (λ z. IsExceedingValue rows es z (map placed_by qs)) (sym h.1) (subst (IsExceedingValue rows es i) (sym h.2) v)),
 )
 value_answers (Ok (an.Excess fs (ex.Rows j k))) rows es i ps h x v = absurd h
+value_answers (Ok (an.Excess fs (ex.Literal t))) rows es i ps h x v = absurd h
+value_answers (Ok (an.Excess fs (ex.Form t))) rows es i ps h x v = absurd h
+value_answers (Ok (an.Excess fs (ex.Term t qs))) rows es i ps h x v = absurd h
 value_answers (Ok (an.Contradiction fs)) rows es i ps h x v = absurd h
 value_answers (Ok (an.Point fs qs)) rows es i ps h x v = absurd h
 value_answers (Ok (an.Spent fs)) rows es i ps h x v = absurd h
@@ -259,10 +263,13 @@ stop_answers (Ok a) rows limit es G o n h d = go o a n h d
     go out.Spent (an.Point fs qs) n h d = absurd h
     go out.Spent (an.Excess fs x) n h d = absurd h
     go (out.Exceeds i j) (an.Excess fs (ex.Rows k l)) n h d = (
-      subst (IsExcess rows) (sym h.0) (is_excess rows limit es d.0),
+      subst (IsExcess rows) (sym h.0) (is_excess rows limit es d.0 d.2),
       subst (λ z. AreExceedingRows (in_force rows z) k l) (sym h.0) (subst (λ z. AreExceedingRows (in_force rows es) z l) (sym h.1) (subst (AreExceedingRows (in_force rows es) i) (sym h.2) d.1)),
     )
     go (out.Exceeds i j) (an.Excess fs (ex.Value k qs)) n h d = absurd h
+    go (out.Exceeds i j) (an.Excess fs (ex.Literal t)) n h d = absurd h
+    go (out.Exceeds i j) (an.Excess fs (ex.Form t)) n h d = absurd h
+    go (out.Exceeds i j) (an.Excess fs (ex.Term t qs)) n h d = absurd h
     go (out.Exceeds i j) (an.Contradiction fs) n h d = absurd h
     go (out.Exceeds i j) (an.Point fs qs) n h d = absurd h
     go (out.Exceeds i j) (an.Spent fs) n h d = absurd h

@@ -4,8 +4,8 @@ use Rattle.std.proofs.lemmas.List.{map-append, same_from_push}
 use Rattle.std.specs.Prelude.{Option, None, Some, IsSome, MatchOption}
 use lib.IntN.{ℤ, pos}
 use Rattle.sv_log.specs.LogEntries.{Monomial}
-use Rattle.sv_log.specs.LogRows.{monomial}
-use Rattle.sv_row.specs.RowParts.{monomial_of, monomials}
+use Rattle.sv_log.specs.LogRows.{plain_monomial, monomial}
+use Rattle.sv_row.specs.RowParts.{monomials}
 use Rattle.sv_fraction.specs.Fractions.{Ratio, ratio, FitsSum, IsSum, IsBound, ExceedsBound}
 use Rattle.sv_point.specs.NearestPoints.{IsRowOf, IsWorth}
 use Rattle.sv_point.specs.PointLaws.{ArePositive, IsBoundOf}
@@ -46,7 +46,7 @@ no_row r xs x k e h t = not_empty r.parts t.lows (monomial k x) (ap length (sym 
 
 split_is : (r : CodeRow) (xs rest : List (ℤ × ℕ)) (p : ℤ × ℕ) (x : ℕ) (k : ℤ) → xs ≡ r.parts → xs ≡ rest ++ p ∷ [] → (t : IsRowOf x k (plain_row r)) → (monomials rest ≡ t.lows) × (p.0 ≡ k)
 split_is r xs rest p x k e f t =
-    let d = same_from_push (monomials rest) t.lows (monomial_of p) (monomial k x) (sym (map-append monomial_of rest (p ∷ [])) ∙ (sym (ap monomials f) ∙ (ap monomials e ∙ t.is))) in
+    let d = same_from_push (monomials rest) t.lows (plain_monomial p) (monomial k x) (sym (map-append plain_monomial rest (p ∷ [])) ∙ (sym (ap monomials f) ∙ (ap monomials e ∙ t.is))) in
     (d.0, ap (λ (q : Monomial). q.factor) d.1)
 
 pub exceeds_worth : (at : ℕ → Ratio) (r : CodeRow) (xs rest : List (ℤ × ℕ)) (p : ℤ × ℕ) (j : ℤ) → xs ≡ r.parts → xs ≡ rest ++ p ∷ [] → j ≡ r.constant → ExceedsWorth at (ratio j (pos 1)) (monomials rest)

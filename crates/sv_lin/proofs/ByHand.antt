@@ -2,7 +2,7 @@
 use Rattle.std.proofs.Common.{ℕ, zero, suc, ◌<◌, ◌^◌, ◌⊎◌, inl, inr, Bool, true, false, cond, nat_eq, List, [], ◌∷◌, length, ◌≡◌, refl, sym, ap, ◌∙◌, subst, arith}
 use Rattle.std.proofs.lemmas.Int.{ints}
 use Rattle.std.proofs.Math.Nat.{le_of_dvd, pos_of_dvd_of_pos}
-use Rattle.std.proofs.lemmas.Nat.Gcd.{dvd-zero}
+use Rattle.std.proofs.lemmas.Nat.Gcd.{dvd_refl, dvd-zero}
 use Rattle.std.specs.Prelude.{Option, Some, slice_get, slice_index_or, unsigned_abs}
 use Rattle.std.specs.List.{All, Contains}
 use Rattle.std.specs.Int.{◌∣◌}
@@ -15,8 +15,8 @@ use Rattle.sv_log.specs.LogRows.{monomial, row, greatest, times_parts, Cancels, 
 use Rattle.sv_log.specs.Logs.{Item, Known, Bound, IsAbsurd, IsAccepted, IsAllowed}
 use Rattle.sv_fraction.specs.Fractions.{Ratio, ratio, IsReduced}
 use Rattle.sv_point.specs.NearestPoints.{AreBelow, IsMet, with_value, MeetsAt, IsAsNear}
-use Rattle.sv_lin.specs.Eliminations.{holding, HaveColumns, HaveNoAbsurd, made, AreOfRows, AreEntriesOn, IsContradiction, Placed, value_in, ListsColumns, IsNearestIn, AreSaturated, IsPoint, IsSpent, AreExceedingRows, IsExceedingValue, IsExcess}
-use Rattle.sv_lin.specs.WorkedRows.{placed_zero, at_most_zero, at_least_one, into_one, at_most_the_border, large, small, WorkedRows}
+use Rattle.sv_lin.specs.Eliminations.{holding, HasQuotient, HaveColumns, HaveNoAbsurd, made, AreOfRows, AreEntriesOn, IsContradiction, Placed, value_in, ListsColumns, IsNearestIn, AreSaturated, IsPoint, IsSpent, AreExceedingRows, IsExceedingValue, IsExcess}
+use Rattle.sv_lin.specs.WorkedRows.{placed_zero, at_most_zero, at_least_one, twice_at_most_zero, into_one, at_most_the_border, large, small, WorkedRows}
 
 -- ---- short lists
 
@@ -122,11 +122,11 @@ contradict = record {
   place = inr ([], refl);
 }
 
-not_absurd : (r p : Row) → p ≡ r → (length p.parts ≡ 1) → IsAbsurd (Bound r) → ⊥
-not_absurd r p e l a = let d : length r.parts ≡ 1 = subst (λ (x : Row). length x.parts ≡ 1) e l in let f : length r.parts ≡ 0 = ap length a.0 in omega (arith, d, f)
+not_absurd : (r p : Row) (n : ℕ) → p ≡ r → (length p.parts ≡ suc n) → IsAbsurd (Bound r) → ⊥
+not_absurd r p n e l a = let d : length r.parts ≡ suc n = subst (λ (x : Row). length x.parts ≡ suc n) e l in let f : length r.parts ≡ 0 = ap length a.0 in omega (arith, d, f)
 
 none_absurd : HaveNoAbsurd (at_most_zero ∷ at_least_one ∷ [])
-none_absurd r c a = elim (in_two at_most_zero at_least_one r c) [ inl e ↦ not_absurd r at_most_zero e refl a | inr e ↦ not_absurd r at_least_one e refl a ]
+none_absurd r c a = elim (in_two at_most_zero at_least_one r c) [ inl e ↦ not_absurd r at_most_zero 0 e refl a | inr e ↦ not_absurd r at_least_one 0 e refl a ]
 
 spent : IsSpent (at_most_zero ∷ at_least_one ∷ []) 1 into_one
 spent = record { entries = entries_one; reached = omega arith; before = omega arith; given = none_absurd }
@@ -138,6 +138,30 @@ both_met f p h k = omega (arith, ints)
 no_point : (es : List Entry) (ps : List Placed) → IsPoint (at_most_zero ∷ at_least_one ∷ []) es ps → ⊥
 no_point es ps h =
     both_met (value_in ps 0) (h.nearest 0).0.positive (h.meets at_most_zero (first_in at_most_zero (at_least_one ∷ []))) (h.meets at_least_one (second_in at_most_zero at_least_one []))
+
+-- ---- a row with the number 1 has no quotient
+
+no_division : (d : ℤ) (r t : Row) (x : ℕ) (ps : List Monomial) → r.parts ≡ monomial (pos 1) x ∷ ps → IsDivided d r t → ⊥
+no_division d r t x ps e i = go t.parts (sym e ∙ i.parts)
+  where
+    two : (d k : ℤ) → pos 2 ≤ℤ d → pos 1 ≡ d *ℤ k → ⊥
+    two (negsuc d) k h e = omega (arith, ints)
+    two (pos zero) k h e = omega (arith, ints)
+    two (pos (suc zero)) k h e = omega (arith, ints)
+    two (pos (suc (suc d))) (pos zero) h e = omega (arith, ints, e)
+    two (pos (suc (suc d))) (pos (suc k)) h e = omega (arith, ints, e)
+    two (pos (suc (suc d))) (negsuc k) h e = omega (arith, ints, e)
+
+    front : List Monomial → ℤ
+    front [] = pos 0
+    front (p ∷ ps) = p.factor
+
+    go : (ts : List Monomial) → monomial (pos 1) x ∷ ps ≡ times_parts d ts → ⊥
+    go [] e = cc e
+    go (p ∷ ts) e = two d p.factor i.more (ap front e)
+
+undivided : (rows : List Row) (r s : Row) (x : ℕ) (ps : List Monomial) → r.parts ≡ monomial (pos 1) x ∷ ps → r ≡ s → HasQuotient rows s
+undivided rows r s x ps e f d t g k h = absurd (no_division (pos d) s t x ps (ap (λ (u : Row). u.parts) (sym f) ∙ e) h)
 
 -- ---- x <= 0
 
@@ -209,10 +233,31 @@ point : IsPoint (at_most_zero ∷ []) [] (placed_zero ∷ [])
 point = record {
   entries = record { of_rows = tt; accepted = λ ts h. tt; no_absurd = λ r c. in_none r c };
   saturated = saturated_alone at_most_zero;
+  divided = λ r c. undivided (at_most_zero ∷ []) at_most_zero r 0 [] refl (in_one at_most_zero r c);
   lists = lists_zero;
   nearest = nearest_at;
   meets = λ r c. subst (IsMet zeros) (in_one at_most_zero r c) (met_at_zero (zeros 0) (zeros_are 0));
 }
+
+-- ---- 2 x <= 0
+
+halved : IsDivided (pos 2) twice_at_most_zero at_most_zero
+halved = record { more = omega (arith, ints); parts = refl; above = omega (arith, ints); below = omega (arith, ints) }
+
+not_undivided : (ps : List Placed) → IsPoint (twice_at_most_zero ∷ []) [] ps → ⊥
+not_undivided ps h =
+    let c = h.divided twice_at_most_zero (first_in twice_at_most_zero []) 2 at_most_zero
+    (record { divides = (dvd_refl 2, tt); greatest = λ e d. d.0 })
+    (small_range (pos 2) (omega (arith, ints)) (omega (arith, ints))) halved in
+    let e : pos 2 ≡ pos 1 = ap first_factor (in_one twice_at_most_zero at_most_zero c) in
+    cc e
+  where
+    first_of : List Monomial → ℤ
+    first_of [] = pos 0
+    first_of (p ∷ ps) = p.factor
+
+    first_factor : Row → ℤ
+    first_factor r = first_of r.parts
 
 not_left_out : (es : List Entry) → IsPoint (at_most_zero ∷ []) es [] → ⊥
 not_left_out es h = in_none 0 ((h.lists.each 0).1 ((at_most_zero, first_in at_most_zero [], first_in 0 []), tt))
@@ -228,25 +273,6 @@ no_combination m n r s t e f i =
   where
     same : (p q : Monomial) (o : Option Monomial) → o ≡ Some p → o ≡ Some q → p ≡ q
     same p q o e f = cc
-
-no_division : (d : ℤ) (r t : Row) → r ≡ at_most_zero → IsDivided d r t → ⊥
-no_division d r t e i = go t.parts (sym (ap (λ (x : Row). x.parts) e) ∙ i.parts)
-  where
-    two : (d k : ℤ) → pos 2 ≤ℤ d → pos 1 ≡ d *ℤ k → ⊥
-    two (negsuc d) k h e = omega (arith, ints)
-    two (pos zero) k h e = omega (arith, ints)
-    two (pos (suc zero)) k h e = omega (arith, ints)
-    two (pos (suc (suc d))) (pos zero) h e = omega (arith, ints, e)
-    two (pos (suc (suc d))) (pos (suc k)) h e = omega (arith, ints, e)
-    two (pos (suc (suc d))) (negsuc k) h e = omega (arith, ints, e)
-
-    front : List Monomial → ℤ
-    front [] = pos 0
-    front (p ∷ ps) = p.factor
-
-    go : (ps : List Monomial) → monomial (pos 1) 0 ∷ [] ≡ times_parts d ps → ⊥
-    go [] e = cc e
-    go (p ∷ ps) e = two d p.factor i.more (ap front e)
 
 abbrev bound_of : Item → Row
 bound_of (Known f) = row (pos 0) []
@@ -269,7 +295,7 @@ no_entries es h = go es h.of_rows (h.accepted one_term columns_there)
     go [] o a = refl
     go (Combine m p n q r ∷ es) o a =
         let t = a.0.stated in absurd (no_combination m n t.0 t.1 r (only_item p t.0 t.2) (only_item q t.1 t.3) t.4)
-    go (Divide d p r ∷ es) o a = let t = a.0.stated in absurd (no_division d t.0 r (only_item p t.0 t.1) t.2)
+    go (Divide d p r ∷ es) o a = let t = a.0.stated in absurd (no_division d t.0 r 0 [] (ap (λ (u : Row). u.parts) (only_item p t.0 t.1)) t.2)
     go (AddTerm node ∷ es) o a = absurd o
     go (AddFact rule sign n from ∷ es) o a = absurd o
     go (Linear p forward r ∷ es) o a = absurd o
@@ -325,11 +351,11 @@ exceeding = record {
   is_first = refl;
   is_second = refl;
   exceeds = record {
-    column = 0;
+    column = 1;
     first = pos 3;
     second = negsuc 1;
-    of_first = record { lows = []; is = refl; below = tt };
-    of_second = record { lows = []; is = refl; below = tt };
+    of_first = record { lows = monomial (pos 1) 0 ∷ []; is = refl; below = (omega arith, tt) };
+    of_second = record { lows = monomial (pos 1) 0 ∷ []; is = refl; below = (omega arith, tt) };
     m = pos 2;
     n = pos 3;
     cancels = cancels_six;
@@ -340,7 +366,11 @@ exceeding = record {
 excess : IsExcess (large ∷ small ∷ []) []
 excess = record {
   entries = record { of_rows = tt; accepted = λ ts h. tt; no_absurd = λ r c. in_none r c };
-  none = λ r c a. elim (in_two large small r c) [ inl e ↦ not_absurd r large e refl a | inr e ↦ not_absurd r small e refl a ];
+  divided = λ r c. elim (in_two large small r c) [
+    | inl e ↦ undivided (large ∷ small ∷ []) large r 0 (monomial (pos 3) 1 ∷ []) refl e
+    | inr e ↦ undivided (large ∷ small ∷ []) small r 0 (monomial (negsuc 1) 1 ∷ []) refl e
+  ];
+  none = λ r c a. elim (in_two large small r c) [ inl e ↦ not_absurd r large 1 e refl a | inr e ↦ not_absurd r small 1 e refl a ];
 }
 
 pub worked : WorkedRows
@@ -350,6 +380,7 @@ worked = record {
   spent = spent;
   point = point;
   not_nearest = not_nearest;
+  not_undivided = not_undivided;
   not_left_out = not_left_out;
   value = value;
   exceeding = exceeding;

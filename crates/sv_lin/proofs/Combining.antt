@@ -5,8 +5,8 @@ use Rattle.std.specs.Prelude.{Option, None, Some, MatchOption}
 use lib.IntN.{ℤ, ◌+ℤ◌, ◌*ℤ◌}
 use Rattle.sv_num.specs.Range.{IsI128}
 use Rattle.sv_log.specs.LogEntries.{Monomial, Row}
-use Rattle.sv_log.specs.LogRows.{monomial, row, greatest, times, sum_of, FitsRow, Cancels, IsCombined}
-use Rattle.sv_row.specs.RowParts.{monomial_of, monomials, FitsMultiples, sum_of_multiples}
+use Rattle.sv_log.specs.LogRows.{plain_monomial, monomial, row, greatest, times, sum_of, FitsRow, Cancels, IsCombined}
+use Rattle.sv_row.specs.RowParts.{monomials, FitsMultiples, sum_of_multiples}
 use Rattle.sv_row.specs.SumSteps.{FitsBoth}
 use Rattle.sv_lin.specs.Eliminations.{ExceedsCombination}
 use Rattle.sv_lin.specs.CancellingRows.{row_by, CanCancel}
@@ -19,10 +19,10 @@ greatest_last (q ∷ s ∷ ps) p = greatest_last (s ∷ ps) p
 -- the last pair is the greatest column's
 pub last_is : (ps rest : List (ℤ × ℕ)) (p : ℤ × ℕ) (lows : List Monomial) (k : ℤ) (x : ℕ) → ps ≡ rest ++ p ∷ [] → monomials ps ≡ lows ++ monomial k x ∷ [] → p.0 ≡ k
 last_is ps rest p lows k x e f =
-    ap (λ (q : Monomial). q.factor) (same_from_push (monomials rest) lows (monomial_of p) (monomial k x) (sym (map-append monomial_of rest (p ∷ [])) ∙ (sym (ap monomials e) ∙ f))).1
+    ap (λ (q : Monomial). q.factor) (same_from_push (monomials rest) lows (plain_monomial p) (monomial k x) (sym (map-append plain_monomial rest (p ∷ [])) ∙ (sym (ap monomials e) ∙ f))).1
 
 pub not_empty : (ps : List (ℤ × ℕ)) (lows : List Monomial) (p : Monomial) → length ps ≡ 0 → monomials ps ≡ lows ++ p ∷ [] → ⊥
-not_empty ps lows p e f = let a = ap (λ (qs : List Monomial). length qs) f in let b = length-map ps monomial_of in let d = length_push lows p in absurd (omega (arith, e, a, b, d))
+not_empty ps lows p e f = let a = ap (λ (qs : List Monomial). length qs) f in let b = length-map ps plain_monomial in let d = length_push lows p in absurd (omega (arith, e, a, b, d))
 
 pub at_none : {X : Type 0} (o : Option X) (A : Type 0) (B : X → Type 0) → o ≡ None → MatchOption o A B → A
 at_none o A B e h = subst (λ p. MatchOption p A B) e h

@@ -10,8 +10,8 @@ use Rattle.std.proofs.lemmas.Slice.Eq.{slice_eq-Decides}
 use lib.Pointwise.{pointwise}
 use Rattle.std.specs.Prelude.{ℤ, Some, slice_get, slice_index_or}
 use Rattle.sv_log.specs.LogEntries.{Monomial, Row, Entry, cost_of, cost_of_log, cost_of_row}
-use Rattle.sv_log.specs.LogRows.{row}
-use Rattle.sv_row.specs.RowParts.{monomial_of, monomials}
+use Rattle.sv_log.specs.LogRows.{plain_monomial, row}
+use Rattle.sv_row.specs.RowParts.{monomials}
 use Rattle.sv_cert.specs.declared.log.Row.{Row as CodeRow}
 use Rattle.sv_cert.specs.PlainLogs.{plain_row}
 use Rattle.sv_lin.specs.Eliminations.{made}
@@ -112,7 +112,7 @@ pair_decides p q = both (int_eq p.0 q.0) (nat_eq p.1 q.1) (Decides-int_eq p.0 q.
     both true false d e = (λ h. cc h, λ h. e.1 (ap (λ (z : ℤ × ℕ). z.1) h))
     both false t d e = (λ h. cc h, λ h. d.1 (ap (λ (z : ℤ × ℕ). z.0) h))
 
-same_monomial : (p q : ℤ × ℕ) → monomial_of p ≡ monomial_of q → p ≡ q
+same_monomial : (p q : ℤ × ℕ) → plain_monomial p ≡ plain_monomial q → p ≡ q
 same_monomial p q e = ap (λ (m : Monomial). (m.factor, m.column)) e
 
 pub same_parts : (ps qs : List (ℤ × ℕ)) → monomials ps ≡ monomials qs → ps ≡ qs
@@ -120,7 +120,7 @@ same_parts [] [] e = refl
 same_parts [] (q ∷ qs) e = cc e
 same_parts (p ∷ ps) [] e = cc e
 same_parts (p ∷ ps) (q ∷ qs) e =
-    let f : monomial_of p ≡ monomial_of q = cc e in
+    let f : plain_monomial p ≡ plain_monomial q = cc e in
     let g : monomials ps ≡ monomials qs = cc e in
     ap₂ (λ x xs. x ∷ xs) (same_monomial p q f) (same_parts ps qs g)
 

@@ -5,7 +5,7 @@ use Rattle.std.proofs.lemmas.Int.{ints}
 use Rattle.std.proofs.lemmas.List.Elements.{Contains-push, Contains-push_cases, Contains-append_left, Contains-append_cases}
 use Rattle.std.specs.List.{Contains}
 use Rattle.std.proofs.lemmas.Option.{slice_get_within}
-use Rattle.std.specs.Prelude.{Option, None, Some, slice_get, slice_index_or, Result, Ok, Err, IfOk, IfSome, MatchOption}
+use Rattle.std.specs.Prelude.{Option, None, Some, slice_get, slice_index_or, Result, Ok, Err, IfOk, MatchOption}
 use lib.IntN.{ℤ, pos, negsuc, ◌*ℤ◌, ◌+ℤ◌}
 use lib.Signed.{◌≤ℤ◌, ◌<ℤ◌}
 use Rattle.sv_log.specs.LogEntries.{Monomial, Row, Entry}
@@ -70,9 +70,6 @@ step_from rows m n (inr s) = subst (IsStep rows) (sym s.2.2) (n, s.2.3, s.2.4, s
 
 pub at_on : (rows : List Row) (limit : ℕ) (es : List Entry) (G : Type 0) (o : Outcome) → o ≡ out.On → Ends rows limit es G o → IsUnderWay rows limit es × G
 at_on rows limit es G o e h = subst (λ p. Ends rows limit es G p) e h
-
-pub at_if_some : {A : Type 0} (o : Option A) (P : A → Type 0) (a : A) → o ≡ Some a → IfSome o P → P a
-at_if_some o P a e h = subst (λ p. IfSome p P) e h
 
 -- ---- rows that grow
 
@@ -174,7 +171,7 @@ combines_after rows after m p q s g c r t e f =
     let b = same_some s.4 t (slice_get after q) (grown_get g.0 rows after g.1 q s.4 s.6) f in
     subst (λ u. HaveSum after u t) a (subst (λ v. HaveSum after s.3 v) b (s.0, s.1, row_made m, s.7, c))
 
-get_end : (xs : List Row) (t : Row) → slice_get (xs ++ t ∷ []) (length xs) ≡ Some t
+pub get_end : (xs : List Row) (t : Row) → slice_get (xs ++ t ∷ []) (length xs) ≡ Some t
 get_end [] t = refl
 get_end (x ∷ xs) t = get_end xs t
 
@@ -369,7 +366,7 @@ no_sides rows x = record {
   each_lower = λ p l. absurd (omega (arith, l));
 }
 
-before_or_last : (n i : ℕ) → i < n + 1 → (i < n) ⊎ (n ≡ i)
+pub before_or_last : (n i : ℕ) → i < n + 1 → (i < n) ⊎ (n ≡ i)
 before_or_last zero zero h = inr refl
 before_or_last zero (suc i) h = absurd (omega (arith, h))
 before_or_last (suc n) zero h = inl (omega arith)

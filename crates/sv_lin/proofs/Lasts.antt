@@ -3,9 +3,9 @@ use Rattle.std.proofs.Common.{ℕ, ◌<◌, List, [], ◌∷◌, ◌++◌, ◌�
 use Rattle.std.proofs.lemmas.List.{map-append}
 use lib.IntN.{ℤ}
 use Rattle.sv_log.specs.LogEntries.{Monomial}
-use Rattle.sv_log.specs.LogRows.{monomial}
+use Rattle.sv_log.specs.LogRows.{plain_monomial, monomial}
 use Rattle.sv_point.specs.NearestPoints.{AreBelow, IsRowOf}
-use Rattle.sv_row.specs.RowParts.{monomial_of, monomials, AreAbove, AreRising}
+use Rattle.sv_row.specs.RowParts.{monomials, AreAbove, AreRising}
 use Rattle.sv_cert.specs.declared.log.Row.{Row as CodeRow}
 use Rattle.sv_cert.specs.PlainLogs.{plain_row}
 use Rattle.sv_lin.specs.Eliminations.{IsFormed}
@@ -21,7 +21,7 @@ below_last (q ∷ lows) p a = (above_last q.column lows p a.0, below_last lows p
 pub row_at_last : (r : CodeRow) (xs rest : List (ℤ × ℕ)) (p : ℤ × ℕ) (k : ℤ) (x : ℕ) → xs ≡ r.parts → xs ≡ rest ++ p ∷ [] → p.1 ≡ x → k ≡ p.0 → IsFormed (plain_row r) → IsRowOf x k (plain_row r)
 row_at_last r xs rest p k x e f c g h =
     let is : monomials r.parts ≡ monomials rest ++ monomial k x ∷ []
-    = ap monomials (sym e ∙ f) ∙ (map-append monomial_of rest (p ∷ []) ∙ ap (λ z. monomials rest ++ z ∷ []) (ap₂ monomial (sym g) c)) in record {
+    = ap monomials (sym e ∙ f) ∙ (map-append plain_monomial rest (p ∷ []) ∙ ap (λ z. monomials rest ++ z ∷ []) (ap₂ monomial (sym g) c)) in record {
       lows = monomials rest;
       is = is;
       below = below_last (monomials rest) (monomial k x) (subst AreRising is h.rising);

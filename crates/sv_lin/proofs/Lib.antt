@@ -6,6 +6,7 @@ pub mod ColumnLists
 mod Combining
 pub mod Entering
 pub mod Forces
+pub mod Dividing
 pub mod Lasts
 pub mod NewRows
 pub mod Making

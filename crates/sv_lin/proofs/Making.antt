@@ -9,27 +9,29 @@ use lib.Signed.{◌≤ℤ◌, ◌<ℤ◌}
 use Rattle.sv_log.specs.LogEntries.{Row}
 use Rattle.sv_log.specs.LogRows.{times_parts, IsCombined, IsDivided}
 use Rattle.sv_num.specs.Rounding.{IsCeiling}
-use Rattle.sv_row.specs.RowParts.{monomials, Divides}
+use Rattle.sv_row.specs.RowParts.{monomials, IsGreatestDivisor}
 use Rattle.sv_point.specs.NearestPoints.{IsRowOf}
 use Rattle.sv_cert.specs.declared.log.Row.{Row as CodeRow}
 use Rattle.sv_cert.specs.PlainLogs.{plain_row}
 use Rattle.sv_lin.specs.CancellingRows.{row_by, CanCancel}
-use Rattle.sv_lin.specs.Eliminations.{in_force, AreFormed, AreExceedingRows, ExceedsCombination}
-use Rattle.sv_lin.specs.Completeness.{AreCompleteAt}
+use Rattle.sv_lin.specs.Eliminations.{in_force, AreFormed, AreDivided, AreExceedingRows, ExceedsCombination}
+use Rattle.sv_lin.specs.Quotients.{IsIndivisible, HasNoQuotient}
+use Rattle.sv_lin.specs.Holding.{DividesRow, CombinesPair, Crosses, CompletesColumn}
 use Rattle.sv_lin.specs.declared.made.Made.{Made}
 use Rattle.sv_lin.specs.declared.made.Outcome.{Outcome}
-use Rattle.sv_lin.specs.UnderWay.{entry_made, entries_of, row_made, given, force, IsUnderWay, Ends, AddsEntry, GrowsUnder, GrowsBelow, ArePairs, CombinesPairs, CombinesAll, AreSides, IsQuotient, IsSum, CanBeMade, Enters}
+use Rattle.sv_lin.specs.UnderWay.{entry_made, entries_of, row_made, given, force, IsUnderWay, Ends, AddsEntry, ArePairs, CombinesAll, AreSides, IsQuotient, IsSum, CanBeMade, Enters}
 use Rattle.sv_lin.proofs.Entering.{contains_get, force_push}
 use Rattle.sv_lin.proofs.Forces.{adds}
-use Rattle.sv_lin.proofs.Gathering.{ends_weaker, if_ok, step_from, divides_under, sum_done, complete_at, same_some}
+use Rattle.sv_lin.proofs.Dividing.{row_divided, sum_divided}
+use Rattle.sv_lin.proofs.Gathering.{ends_weaker, if_ok, step_from, sum_done, complete_at, same_some}
 
 -- ---- a quotient
 
 pub two_is_positive : (d e : ℤ) → e ≡ d → pos 2 ≤ℤ d → pos 0 <ℤ e
 two_is_positive d e f h = omega (arith, ints, f)
 
-pub divides_same : (d e : ℤ) (xs ys : List (ℤ × ℕ)) → e ≡ d → ys ≡ xs → Divides (unsigned_abs d) (monomials xs) → Divides (unsigned_abs e) (monomials ys)
-divides_same d e xs ys f g h = subst (λ z. Divides (unsigned_abs z) (monomials ys)) (sym f) (subst (λ z. Divides (unsigned_abs d) (monomials z)) (sym g) h)
+pub divisor_same : (d e : ℤ) (xs ys : List (ℤ × ℕ)) → e ≡ d → ys ≡ xs → IsGreatestDivisor (monomials xs) (unsigned_abs d) → IsGreatestDivisor (monomials ys) (unsigned_abs e)
+divisor_same d e xs ys f g h = subst (λ z. IsGreatestDivisor (monomials ys) (unsigned_abs z)) (sym f) (subst (λ z. IsGreatestDivisor (monomials z) (unsigned_abs d)) (sym g) h)
 
 pub quotient_is : (r : CodeRow) (d e j q p : ℤ) (xs ys zs : List (ℤ × ℕ)) → e ≡ d → j ≡ r.constant → p ≡ q → pos 2 ≤ℤ d → xs ≡ r.parts → zs ≡ ys
     → monomials xs ≡ times_parts e (monomials ys) → IsCeiling j e q → IsDivided e (plain_row r) (row_by p zs)
@@ -42,6 +44,9 @@ quotient_is r d e j q p xs ys zs ed ej ep two ex ez h k = record {
   where
     turned : q *ℤ e ≡ e *ℤ p
     turned = *ℤ_comm q e ∙ ap (λ z. e *ℤ z) (sym ep)
+
+pub no_quotient : (rows : List Row) (p : ℕ) (r : CodeRow) (xs : List (ℤ × ℕ)) → slice_get rows p ≡ Some (plain_row r) → xs ≡ r.parts → IsIndivisible (monomials xs) → HasNoQuotient rows p
+no_quotient rows p r xs g e n s h = subst (λ (z : Row). IsIndivisible z.parts) (same_some (plain_row r) s (slice_get rows p) g h) (subst (λ z. IsIndivisible (monomials z)) e n)
 
 -- ---- a sum
 
@@ -113,24 +118,27 @@ entered o rows limit old new m h w n c =
 
 pub divided_ends : {E : Type 0} (o : Result Outcome E) (rows : List CodeRow) (limit : ℕ) (old new : List Made) (m : Made) (p : ℕ) → IsQuotient (force rows old) p m
     → IfOk o (λ a. Ends (given rows) limit (entries_of new) (Enters (force rows old) (row_made m) (force rows new)) a)
-    → IfOk o (λ a. Ends (given rows) limit (entries_of new) (GrowsUnder p (force rows old) (force rows new)) a)
+    → IfOk o (λ a. Ends (given rows) limit (entries_of new) (DividesRow p (force rows old) (force rows new)) a)
 divided_ends o rows limit old new m p q h =
-    if_ok o (λ a. Ends (given rows) limit (entries_of new) (Enters (force rows old) (row_made m) (force rows new)) a) (λ a. Ends (given rows) limit (entries_of new) (GrowsUnder p (force rows old) (force rows new)) a)
-    (λ a k. ends_weaker (given rows) limit (entries_of new) (Enters (force rows old) (row_made m) (force rows new)) (GrowsUnder p (force rows old) (force rows new)) a (divides_under (force rows old) (force rows new) m p q) k) h
+    if_ok o (λ a. Ends (given rows) limit (entries_of new) (Enters (force rows old) (row_made m) (force rows new)) a) (λ a. Ends (given rows) limit (entries_of new) (DividesRow p (force rows old) (force rows new)) a)
+    (λ a k. ends_weaker (given rows) limit (entries_of new) (Enters (force rows old) (row_made m) (force rows new)) (DividesRow p (force rows old) (force rows new)) a (row_divided (force rows old) (force rows new) m p q) k) h
 
-pub done_ends : {E : Type 0} (o : Result Outcome E) (rows : List CodeRow) (limit : ℕ) (old mid new : List Made) (m : Made) (p q n l : ℕ) → IsSum (force rows old) p q m → Enters (force rows old) (row_made m) (force rows mid)
-    → n ≡ length (force rows old) → l ≡ length (force rows mid) → n < l
-    → IfOk o (λ a. Ends (given rows) limit (entries_of new) (GrowsUnder n (force rows mid) (force rows new)) a)
-    → IfOk o (λ a. Ends (given rows) limit (entries_of new) (CombinesPairs p (q ∷ []) (force rows old) (force rows new)) a)
-done_ends o rows limit old mid new m p q n l s e i j k h =
-    if_ok o (λ a. Ends (given rows) limit (entries_of new) (GrowsUnder n (force rows mid) (force rows new)) a) (λ a. Ends (given rows) limit (entries_of new) (CombinesPairs p (q ∷ []) (force rows old) (force rows new)) a)
-    (λ a z. ends_weaker (given rows) limit (entries_of new) (GrowsUnder n (force rows mid) (force rows new)) (CombinesPairs p (q ∷ []) (force rows old) (force rows new)) a
-    (sum_done (force rows old) (force rows mid) (force rows new) m p q n s e i (subst (λ y. n < y) j k)) z) h
+pub done_ends : {E : Type 0} (o : Result Outcome E) (rows : List CodeRow) (limit : ℕ) (old mid new : List Made) (m : Made) (p q n l : ℕ) → AreDivided (force rows old) → IsSum (force rows old) p q m
+    → Enters (force rows old) (row_made m) (force rows mid) → n ≡ length (force rows old) → l ≡ length (force rows mid) → n < l
+    → IfOk o (λ a. Ends (given rows) limit (entries_of new) (DividesRow n (force rows mid) (force rows new)) a)
+    → IfOk o (λ a. Ends (given rows) limit (entries_of new) (CombinesPair p q (force rows old) (force rows new)) a)
+done_ends o rows limit old mid new m p q n l d s e i j k h =
+    if_ok o (λ a. Ends (given rows) limit (entries_of new) (DividesRow n (force rows mid) (force rows new)) a) (λ a. Ends (given rows) limit (entries_of new) (CombinesPair p q (force rows old) (force rows new)) a)
+    (λ a z. ends_weaker (given rows) limit (entries_of new) (DividesRow n (force rows mid) (force rows new)) (CombinesPair p q (force rows old) (force rows new)) a
+    (λ w. let b = subst (λ y. n < y) j k in (
+      sum_done (force rows old) (force rows mid) (force rows new) m p q n s e i b w.0,
+      sum_divided (force rows old) (force rows mid) (force rows new) (row_made m) n d e i b w,
+    )) z) h
 
 pub column_ends : {E : Type 0} (o : Result Outcome E) (rows : List CodeRow) (limit : ℕ) (old new : List Made) (x : ℕ) (us ls us' ls' : List ℕ) → us' ≡ us → ls' ≡ ls → AreSides (force rows old) x (length (force rows old)) us ls
-    → IfOk o (λ a. Ends (given rows) limit (entries_of new) (CombinesAll us' ls' (force rows old) (force rows new)) a)
-    → IfOk o (λ a. Ends (given rows) limit (entries_of new) (GrowsBelow x (force rows old) (force rows new) × AreCompleteAt (force rows new) x) a)
+    → IfOk o (λ a. Ends (given rows) limit (entries_of new) (Crosses us' ls' (force rows old) (force rows new)) a)
+    → IfOk o (λ a. Ends (given rows) limit (entries_of new) (CompletesColumn x (force rows old) (force rows new)) a)
 column_ends o rows limit old new x us ls us' ls' e f s h =
-    if_ok o (λ a. Ends (given rows) limit (entries_of new) (CombinesAll us' ls' (force rows old) (force rows new)) a) (λ a. Ends (given rows) limit (entries_of new) (GrowsBelow x (force rows old) (force rows new) × AreCompleteAt (force rows new) x) a)
-    (λ a z. ends_weaker (given rows) limit (entries_of new) (CombinesAll us' ls' (force rows old) (force rows new)) (GrowsBelow x (force rows old) (force rows new) × AreCompleteAt (force rows new) x) a
-    (λ c. complete_at (force rows old) (force rows new) x us ls s (subst (λ y. CombinesAll y ls (force rows old) (force rows new)) e (subst (λ y. CombinesAll us' y (force rows old) (force rows new)) f c))) z) h
+    if_ok o (λ a. Ends (given rows) limit (entries_of new) (Crosses us' ls' (force rows old) (force rows new)) a) (λ a. Ends (given rows) limit (entries_of new) (CompletesColumn x (force rows old) (force rows new)) a)
+    (λ a z. ends_weaker (given rows) limit (entries_of new) (Crosses us' ls' (force rows old) (force rows new)) (CompletesColumn x (force rows old) (force rows new)) a
+    (λ c. (complete_at (force rows old) (force rows new) x us ls s (subst (λ y. CombinesAll y ls (force rows old) (force rows new)) e (subst (λ y. CombinesAll us' y (force rows old) (force rows new)) f c.0)), c.1)) z) h

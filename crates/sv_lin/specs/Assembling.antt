@@ -2,11 +2,11 @@
 use Rattle.std.specs.Prelude.{ℕ, ◌<◌, ◌^◌, List, map, ◌≡◌}
 use Rattle.sv_log.specs.LogEntries.{Entry}
 use Rattle.sv_cert.specs.PlainLogs.{plain_entry}
-use Rattle.sv_lin.specs.Eliminations.{Placed}
+use Rattle.sv_lin.specs.Eliminations.{Placed, AreDivided}
 use Rattle.sv_lin.specs.EliminationAnswers.{placed_by}
 use Rattle.sv_lin.specs.declared.answer.Eliminated.{Eliminated}
 use Rattle.sv_lin.specs.declared.answer.Eliminated.TheVariants as a
-use Rattle.sv_lin.specs.declared.answer.Excess.TheVariants as e
+use Rattle.sv_cert.specs.declared.excess.Excess.TheVariants as e
 use Rattle.sv_cert.specs.declared.log.Row.{Row as CodeRow}
 use Rattle.sv_lin.specs.declared.work.Work.{Work}
 use Rattle.sv_lin.specs.Completeness.{AreComplete}
@@ -36,9 +36,10 @@ StopsWith es (out.Exceeds i j) (a.Excess fs (e.Rows k l)) = (map plain_entry fs 
 StopsWith es (out.Exceeds i j) answer = ⊥
 StopsWith es out.On answer = Unit {0}
 
--- nothing more can be combined
+-- nothing more can be combined, and each row was divided
 pub record IsSaturated (rows : List CodeRow) (cs : List ℕ) (work : Work) : Type 0 where
   pub limit : ℕ
   pub way : IsOn rows limit work
   pub columns : AreColumns (given rows) cs
   pub complete : AreComplete (held rows work)
+  pub divided : AreDivided (held rows work)

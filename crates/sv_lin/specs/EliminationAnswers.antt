@@ -7,8 +7,8 @@ use Rattle.sv_cert.specs.PlainLogs.{plain_entry}
 use Rattle.sv_lin.specs.Eliminations.{in_force, Placed, IsContradiction, IsPoint, IsSpent, IsExcess, AreExceedingRows, IsExceedingValue}
 use Rattle.sv_lin.specs.declared.answer.Eliminated.{Eliminated}
 use Rattle.sv_lin.specs.declared.answer.Eliminated.TheVariants as a
-use Rattle.sv_lin.specs.declared.answer.Excess.{Excess}
-use Rattle.sv_lin.specs.declared.answer.Excess.TheVariants as e
+use Rattle.sv_cert.specs.declared.excess.Excess.{Excess}
+use Rattle.sv_cert.specs.declared.excess.Excess.TheVariants as e
 
 -- a column with its numerator and denominator
 abbrev pub placed_by : TermId × ℤ × ℤ → Placed
@@ -17,6 +17,7 @@ placed_by p = record { column = p.0.0; value = ratio p.1 p.2 }
 abbrev pub Exceeds : List Row → List Entry → Excess → Type 0
 Exceeds rows es (e.Rows i j) = AreExceedingRows (in_force rows es) i j
 Exceeds rows es (e.Value i ps) = IsExceedingValue rows es i (map placed_by ps)
+Exceeds rows es cause = ⊥
 
 abbrev pub IsAnswer : List Row → ℕ → Eliminated → Type 0
 IsAnswer rows limit (a.Contradiction es) = IsContradiction rows (map plain_entry es)

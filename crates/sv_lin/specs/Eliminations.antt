@@ -4,10 +4,10 @@ use Rattle.std.specs.List.{Contains}
 use Rattle.sv_term.specs.Terms.{Term}
 use Rattle.sv_num.specs.Range.{IsI128}
 use Rattle.sv_log.specs.LogEntries.{Monomial, Row, Entry, Combine, Divide, columns, cost_of_log}
-use Rattle.sv_log.specs.LogRows.{times, sum_of, FitsRow, Cancels, IsCombined}
+use Rattle.sv_log.specs.LogRows.{times, sum_of, FitsRow, Cancels, IsCombined, IsDivided}
 use Rattle.sv_log.specs.Logs.{State, Bound, IsAccepted, IsAbsurd}
 use Rattle.sv_fraction.specs.Fractions.{Ratio, ratio, IsReduced, FitsSum, IsSum, ExceedsBound}
-use Rattle.sv_row.specs.RowParts.{AreRising}
+use Rattle.sv_row.specs.RowParts.{AreRising, IsGreatestDivisor}
 use Rattle.sv_point.specs.NearestPoints.{AreBelow, IsRowOf, IsMet, IsNearestAt, IsWorth}
 
 -- ---- rows in normal form
@@ -23,6 +23,15 @@ pub record IsFormed (r : Row) : Type 0 where
 
 abbrev pub AreFormed : List Row → Type 0
 AreFormed rows = (r : Row) → Contains rows r → IsFormed r
+
+-- ---- rows with their quotients
+
+-- the row's quotient by the greatest divisor of its numbers, where that is an `i128`, is one of the rows
+abbrev pub HasQuotient : List Row → Row → Type 0
+HasQuotient rows r = (d : ℕ) (t : Row) → IsGreatestDivisor r.parts d → IsI128 (pos d) → IsDivided (pos d) r t → Contains rows t
+
+abbrev pub AreDivided : List Row → Type 0
+AreDivided rows = (r : Row) → Contains rows r → HasQuotient rows r
 
 -- ---- rows as the first items of a log
 
@@ -105,10 +114,11 @@ IsNearestIn rows at x = IsReduced (at x) × IsNearestAt rows at x
 abbrev pub AreSaturated : List Row → Type 0
 AreSaturated rows = (m n : ℤ) (r s t : Row) → Contains rows r → Contains rows s → IsCombined m r n s t → Contains rows t
 
--- nothing more can be combined, and the list is the nearest point, which meets the given rows
+-- nothing more can be combined, each row was divided, and the list is the nearest point, which meets the given rows
 pub record IsPoint (rows : List Row) (es : List Entry) (ps : List Placed) : Type 0 where
   pub entries : AreEntriesOn rows es
   pub saturated : AreSaturated (in_force rows es)
+  pub divided : AreDivided (in_force rows es)
   pub lists : ListsColumns rows (λ x. Unit {0}) ps
   pub nearest : (x : ℕ) → IsNearestIn (in_force rows es) (value_in ps) x
   pub meets : (r : Row) → Contains rows r → IsMet (value_in ps) r
@@ -166,7 +176,8 @@ pub record IsExceedingValue (rows : List Row) (es : List Entry) (i : ℕ) (ps : 
   pub lists : ListsColumns rows (λ x. x < exceeds.column) ps
   pub nearest : (x : ℕ) → x < exceeds.column → IsNearestIn (in_force rows es) (value_in ps) x
 
--- neither a given row nor a made one is absurd
+-- neither a given row nor a made one is absurd, and each was divided
 pub record IsExcess (rows : List Row) (es : List Entry) : Type 0 where
   pub entries : AreEntriesOn rows es
+  pub divided : AreDivided (in_force rows es)
   pub none : HaveNoAbsurd (in_force rows es)

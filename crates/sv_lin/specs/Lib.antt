@@ -5,6 +5,7 @@ pub mod EliminationAnswers
 pub mod Eliminations
 pub mod Holding
 pub mod Placing
+pub mod Quotients
 pub mod Renumbering
 pub mod UnderWay
 pub mod WorkedRows

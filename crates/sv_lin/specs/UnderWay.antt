@@ -1,13 +1,14 @@
 -- Serves the proof: how far elimination has come, and what a step of it leaves.
-use Rattle.std.specs.Prelude.{ℕ, ◌+◌, ◌<◌, ◌≤◌, ◌^◌, ◌↔◌, ◌⊎◌, List, [], ◌∷◌, ◌++◌, map, length, take, ◌≡◌, ℤ, pos, ◌<ℤ◌, ◌≤ℤ◌, Option, None, Some, slice_get}
+use Rattle.std.specs.Prelude.{ℕ, ◌+◌, ◌<◌, ◌≤◌, ◌^◌, ◌↔◌, ◌⊎◌, List, [], ◌∷◌, ◌++◌, map, length, take, ◌≡◌, ℤ, pos, ◌<ℤ◌, ◌≤ℤ◌, unsigned_abs, Option, None, Some, slice_get}
 use Rattle.std.specs.List.{Contains}
 use Rattle.sv_log.specs.LogEntries.{Monomial, Row, Entry, Combine, Divide, columns, cost_of_log}
 use Rattle.sv_log.specs.LogRows.{IsCombined, IsDivided}
 use Rattle.sv_log.specs.Logs.{Bound, IsAbsurd}
 use Rattle.sv_point.specs.NearestPoints.{AreBelow, IsRowOf}
+use Rattle.sv_row.specs.RowParts.{IsGreatestDivisor}
 use Rattle.sv_cert.specs.declared.log.Row.{Row as CodeRow}
 use Rattle.sv_cert.specs.PlainLogs.{plain_row}
-use Rattle.sv_lin.specs.Eliminations.{in_force, HaveNoAbsurd, AreEntriesOn, AreFormed, IsColumnOf, IsContradiction, IsSpent, AreExceedingRows}
+use Rattle.sv_lin.specs.Eliminations.{in_force, HaveNoAbsurd, AreEntriesOn, AreFormed, AreDivided, IsColumnOf, IsContradiction, IsSpent, AreExceedingRows}
 use Rattle.sv_lin.specs.Completeness.{HaveSum, AreCompleteAt}
 use Rattle.sv_lin.specs.declared.made.Made.{Made}
 use Rattle.sv_lin.specs.declared.made.Origin.{Origin}
@@ -61,7 +62,7 @@ abbrev pub Ends : List Row → ℕ → List Entry → Type 0 → Outcome → Typ
 Ends rows limit es Goal out.On = IsUnderWay rows limit es × Goal
 Ends rows limit es Goal out.Contradiction = IsContradiction rows es
 Ends rows limit es Goal out.Spent = IsSpent rows limit es
-Ends rows limit es Goal (out.Exceeds i j) = IsUnderWay rows limit es × AreExceedingRows (in_force rows es) i j
+Ends rows limit es Goal (out.Exceeds i j) = IsUnderWay rows limit es × AreExceedingRows (in_force rows es) i j × AreDivided (in_force rows es)
 
 -- the entry can be added to the rows in force, and what it adds isn't among them
 abbrev pub IsStep : List Row → Entry → Type 0
@@ -139,9 +140,10 @@ columns_among (r ∷ rows) = columns r.parts ++ columns_among rows
 
 -- ---- rows that can be made
 
--- the quotient of row p
+-- the quotient of row p by the greatest divisor of its numbers
 abbrev pub IsQuotient : List Row → ℕ → Made → Type 0
-IsQuotient rows p m = (d : ℤ) × (entry_made m ≡ Divide d p (row_made m)) × (a : Row) × (slice_get rows p ≡ Some a) × IsDivided d a (row_made m)
+IsQuotient rows p m = (d : ℤ) × (entry_made m ≡ Divide d p (row_made m)) × (a : Row) × (slice_get rows p ≡ Some a)
+    × IsDivided d a (row_made m) × IsGreatestDivisor a.parts (unsigned_abs d)
 
 -- what the rows p and q make
 abbrev pub IsSum : List Row → ℕ → ℕ → Made → Type 0

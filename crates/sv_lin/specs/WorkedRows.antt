@@ -24,12 +24,16 @@ into_one = Combine (pos 1) 0 (pos 1) 1 (row (pos 1) []) ∷ []
 abbrev pub at_most_the_border : Row
 at_most_the_border = row (neg_ℤ (pos (2 ^ 127))) (monomial (pos 1) 0 ∷ [])
 
--- 2^126 + 3 x <= 0 and 1 - 2 x <= 0: twice the first has the constant 2^127
+-- 2^126 + x + 3 y <= 0 and 1 + x - 2 y <= 0, with y as column 1: twice the first has the constant 2^127
 abbrev pub large : Row
-large = row (pos (2 ^ 126)) (monomial (pos 3) 0 ∷ [])
+large = row (pos (2 ^ 126)) (monomial (pos 1) 0 ∷ monomial (pos 3) 1 ∷ [])
 
 abbrev pub small : Row
-small = row (pos 1) (monomial (negsuc 1) 0 ∷ [])
+small = row (pos 1) (monomial (pos 1) 0 ∷ monomial (negsuc 1) 1 ∷ [])
+
+-- 2 x <= 0
+abbrev pub twice_at_most_zero : Row
+twice_at_most_zero = row (pos 0) (monomial (pos 2) 0 ∷ [])
 
 pub record WorkedRows : Type 0 where
   -- x <= 0 and 1 - x <= 0 contradict
@@ -42,6 +46,8 @@ pub record WorkedRows : Type 0 where
   pub point : IsPoint (at_most_zero ∷ []) [] (placed_zero ∷ [])
   -- and not -1, which the row allows
   pub not_nearest : (es : List Entry) → IsPoint (at_most_zero ∷ []) es (record { column = 0; value = ratio (negsuc 0) (pos 1) } ∷ []) → ⊥
+  -- 2 x <= 0 has to be divided by 2
+  pub not_undivided : (ps : List Placed) → IsPoint (twice_at_most_zero ∷ []) [] ps → ⊥
   -- each column is listed
   pub not_left_out : (es : List Entry) → IsPoint (at_most_zero ∷ []) es [] → ⊥
   -- a bound of 2^127 is too large

@@ -6,7 +6,7 @@ ghost use Rattle.sv_lin.specs.UnderWay.{entry_made, entries_of, given, HasAbsurd
 ghost use Rattle.sv_lin.specs.Placing.{placed};
 ghost use Rattle.sv_lin.specs.Assembling.{IsSaturated, IsPointBy, IsValueBy, AreSmall, StopsWith};
 
-use crate::answer::{Eliminated, Excess};
+use crate::answer::Eliminated;
 use crate::columns::columns;
 use crate::made::{Made, Origin, Outcome};
 use crate::place::Place;
@@ -15,7 +15,7 @@ use crate::rounds::eliminate_columns;
 use crate::work::{Work, is_absurd};
 use sqlite_items::Items;
 use std::alloc::Global;
-use sv_cert::{Entry, Row};
+use sv_cert::{Entry, Excess, Row};
 use sv_term::TermId;
 use sv_text::NoMemory;
 

@@ -17,6 +17,6 @@ mod sides;
 mod step;
 mod work;
 
-pub use answer::{Eliminated, Excess};
+pub use answer::Eliminated;
 pub use elimination::eliminate;
 pub use step::{Combination, combine_rows};

@@ -1,8 +1,9 @@
-ghost use Rattle.std.specs.Prelude.{◌<◌, ◌≤ℤ◌, ◌∷◌, [], pos, length, unsigned_abs, IfOk, IfSome};
-ghost use Rattle.sv_row.specs.RowParts.{monomials, Divides};
+ghost use Rattle.std.specs.Prelude.{◌≡◌, ◌<◌, ◌≤ℤ◌, ◌∷◌, [], pos, length, unsigned_abs, IfOk, MatchOption};
+ghost use Rattle.sv_row.specs.RowParts.{monomials, IsGreatestDivisor};
 ghost use Rattle.sv_lin.specs.Eliminations.{AreFormed};
-ghost use Rattle.sv_lin.specs.UnderWay.{row_made, given, GrowsUnder, CombinesPairs, AreColumns, IsQuotient, CanBeMade};
-ghost use Rattle.sv_lin.specs.Holding.{held, IsOn, Step, ArePairsOf, AreAllPairsOf, IsCombination, EntersRow, CombinesPair, Crosses, CompletesColumn, CompletesAll};
+ghost use Rattle.sv_lin.specs.UnderWay.{row_made, given, AreColumns, CanBeMade};
+ghost use Rattle.sv_lin.specs.Quotients.{IsIndivisible};
+ghost use Rattle.sv_lin.specs.Holding.{held, IsOn, IsOnDivided, Step, ArePairsOf, AreAllPairsOf, IsQuotientOf, IsCombination, EntersRow, DividesRow, DividesAll, CombinesPair, CombinesRow, Crosses, CompletesColumn, CompletesAll};
 
 use crate::made::{Made, Origin, Outcome};
 use crate::sides::sides_of;
@@ -17,7 +18,8 @@ use sv_text::NoMemory;
 
 /// The greatest number that divides each number of the parts, if it is 2 or more.
 fn divisor_of(parts: &[(i128, usize)]) -> Option<i128>
-    ensures { IfSome result (λ d. (pos 2 ≤ℤ d) × Divides (unsigned_abs d) (monomials parts.now)) }
+    ensures { MatchOption result (IsIndivisible (monomials parts.now))
+        (λ d. (pos 2 ≤ℤ d) × IsGreatestDivisor (monomials parts.now) (unsigned_abs d)) }
 {
     let greatest = divisor(parts);
     if 2 <= greatest && greatest < 1 << 127 {
@@ -35,7 +37,7 @@ fn quotient(
     number: usize,
 ) -> Result<Option<Made>, NoMemory>
     requires { number < length (held rows.now work.now) }
-    ensures { IfOk result (λ q. IfSome q (λ m. IsQuotient (held rows.now work.now) number m)) }
+    ensures { IfOk result (λ q. IsQuotientOf (held rows.now work.now) number q) }
 {
     let row = work.row(rows, number);
     let Some(by) = divisor_of(row.parts.as_slice()) else {
@@ -108,7 +110,7 @@ fn divide(
 ) -> Result<Outcome, NoMemory>
     requires way { IsOn rows.now limit work.old }
     requires there { number < length (held rows.now work.old) }
-    ensures { IfOk result (Step rows.now limit work.old work.new (GrowsUnder number)) }
+    ensures { IfOk result (Step rows.now limit work.old work.new (DividesRow number)) }
 {
     let made = quotient(alloc, rows, work, number)?;
     match made {
@@ -126,7 +128,7 @@ fn combine(
     upper: usize,
     lower: usize,
 ) -> Result<Outcome, NoMemory>
-    requires way { IsOn rows.now limit work.old }
+    requires way { IsOnDivided rows.now limit work.old }
     requires pair { ArePairsOf rows.now work.old upper (lower ∷ []) }
     ensures { IfOk result (Step rows.now limit work.old work.new (CombinesPair upper lower)) }
 {
@@ -156,9 +158,9 @@ fn combine_with_lowers(
     upper: usize,
     lowers: &[usize],
 ) -> Result<Outcome, NoMemory>
-    requires way { IsOn rows.now limit work.old }
+    requires way { IsOnDivided rows.now limit work.old }
     requires pairs { ArePairsOf rows.now work.old upper lowers.now }
-    ensures { IfOk result (Step rows.now limit work.old work.new (CombinesPairs upper lowers.now)) }
+    ensures { IfOk result (Step rows.now limit work.old work.new (CombinesRow upper lowers.now)) }
 {
     for &lower in lowers {
         match combine(alloc, rows, limit, work, upper, lower)? {
@@ -177,7 +179,7 @@ fn combine_sides(
     uppers: &[usize],
     lowers: &[usize],
 ) -> Result<Outcome, NoMemory>
-    requires way { IsOn rows.now limit work.old }
+    requires way { IsOnDivided rows.now limit work.old }
     requires pairs { AreAllPairsOf rows.now work.old uppers.now lowers.now }
     ensures { IfOk result (Step rows.now limit work.old work.new (Crosses uppers.now lowers.now)) }
 {
@@ -198,7 +200,7 @@ fn eliminate_column(
     work: &mut Work,
     column: usize,
 ) -> Result<Outcome, NoMemory>
-    requires { IsOn rows.now limit work.old }
+    requires { IsOnDivided rows.now limit work.old }
     ensures { IfOk result (Step rows.now limit work.old work.new (CompletesColumn column)) }
 {
     let sides = sides_of(alloc, rows, work, column)?;
@@ -218,8 +220,9 @@ fn divide_given(
     limit: u64,
     work: &mut Work,
 ) -> Result<Outcome, NoMemory>
-    requires { IsOn rows.now limit work.old }
-    ensures { IfOk result (Step rows.now limit work.old work.new (λ old new. Unit {0})) }
+    requires way { IsOn rows.now limit work.old }
+    requires start { work.old.made.items ≡ [] }
+    ensures { IfOk result (Step rows.now limit work.old work.new DividesAll) }
 {
     for number in 0..rows.len() {
         match divide(alloc, rows, limit, work, number)? {
@@ -237,7 +240,7 @@ fn eliminate_from(
     work: &mut Work,
     columns: &[usize],
 ) -> Result<Outcome, NoMemory>
-    requires way { IsOn rows.now limit work.old }
+    requires way { IsOnDivided rows.now limit work.old }
     requires columns { AreColumns (given rows.now) columns.now }
     ensures { IfOk result (Step rows.now limit work.old work.new CompletesAll) }
 {
@@ -252,7 +255,7 @@ fn eliminate_from(
     Ok(Outcome::On)
 }
 
-/// Combines each two rows that can be combined, the columns from the greatest down.
+/// Divides each row, and combines each two that can be combined, the columns from the greatest down.
 pub fn eliminate_columns(
     alloc: Global,
     rows: &[Row],
@@ -261,6 +264,7 @@ pub fn eliminate_columns(
     columns: &[usize],
 ) -> Result<Outcome, NoMemory>
     requires way { IsOn rows.now limit work.old }
+    requires start { work.old.made.items ≡ [] }
     requires columns { AreColumns (given rows.now) columns.now }
     ensures { IfOk result (Step rows.now limit work.old work.new CompletesAll) }
 {

@@ -1,14 +1,20 @@
 -- Rows in normal form, part by part.
-use Rattle.std.proofs.Common.{ℕ, zero, suc, ◌+◌, ◌<◌, ◌≤◌, ◌⊎◌, inl, inr, List, [], ◌∷◌, map, length, get_or, drop, ◌≡◌, refl, sym, ap, ◌∙◌, subst, arith}
+use Rattle.std.proofs.Common.{ℕ, zero, suc, ◌+◌, ◌<◌, ◌≤◌, ◌⊎◌, inl, inr, List, [], ◌∷◌, ◌++◌, map, length, get_or, drop, ◌≡◌, refl, sym, ap, ◌∙◌, subst, arith}
 use Rattle.std.proofs.lemmas.List.{drop_all}
 use Rattle.std.specs.List.{Contains}
-use Rattle.std.specs.Prelude.{ℤ, pos, slice_index_or}
+use Rattle.std.specs.Prelude.{slice_index_or}
+use Rattle.std.proofs.lemmas.Int.{ints}
+use lib.IntN.{ℤ, pos, negsuc, ◌*ℤ◌}
+use lib.Signed.{◌<ℤ◌}
 use Rattle.sv_log.specs.LogEntries.{Row}
 use Rattle.sv_row.specs.RowParts.{monomials, AreAbove, AreRising}
 use Rattle.sv_row.proofs.Sums.{above_more}
 use Rattle.sv_cert.specs.declared.log.Row.{Row as CodeRow}
 use Rattle.sv_cert.specs.PlainLogs.{plain_row}
+use Rattle.sv_point.specs.NearestPoints.{IsRowOf}
+use Rattle.sv_lin.specs.CancellingRows.{row_by, CanCancel}
 use Rattle.sv_lin.specs.Eliminations.{AreNonZero, IsFormed}
+use Rattle.sv_lin.proofs.Lasts.{row_at_last}
 
 pub nothing_above : (x : ℕ) (ps : List (ℤ × ℕ)) → length ps ≡ 0 → AreAbove x (monomials ps)
 nothing_above x [] e = tt
@@ -44,3 +50,31 @@ none_left P xs i r h c = let d = ap (λ z. length (map P z)) (drop_all i xs h) i
 
 pub formed_by : (r : CodeRow) (xs : List (ℤ × ℕ)) → xs ≡ r.parts → AreRising (monomials xs) × AreNonZero (monomials xs) → IsFormed (plain_row r)
 formed_by r xs e f = let g = subst (λ z. AreRising (monomials z) × AreNonZero (monomials z)) e f in record { rising = g.0; non_zero = g.1 }
+
+-- ---- two rows that can be combined
+
+-- the row of these parts, as the code has it
+abbrev with_constant : ℤ → List (ℤ × ℕ) → CodeRow
+with_constant j ps = record { constant = j; parts = ps }
+
+greatest_at : (j : ℤ) (ps rest : List (ℤ × ℕ)) (p : ℤ × ℕ) (x : ℕ) → ps ≡ rest ++ p ∷ [] → p.1 ≡ x → AreRising (monomials ps) × AreNonZero (monomials ps) → IsRowOf x p.0 (row_by j ps)
+greatest_at j ps rest p x e c f = row_at_last (with_constant j ps) ps rest p p.0 x refl e c refl (formed_by (with_constant j ps) ps refl f)
+
+opposite : (k l : ℤ) → pos 0 <ℤ k → l <ℤ pos 0 → (k *ℤ l) <ℤ pos 0
+opposite (pos zero) l h i = absurd (omega (arith, ints))
+opposite (pos (suc k)) (pos l) h i = absurd (omega (arith, ints))
+opposite (pos (suc k)) (negsuc l) h i = omega (arith, ints)
+opposite (negsuc k) l h i = absurd (omega (arith, ints))
+
+pub can_be_combined : (own other own_rest other_rest : List (ℤ × ℕ)) (p q : ℤ × ℕ) (j k : ℤ) → own ≡ own_rest ++ p ∷ [] → other ≡ other_rest ++ q ∷ [] → p.1 ≡ q.1 → pos 0 <ℤ p.0 → q.0 <ℤ pos 0
+    → AreRising (monomials own) × AreNonZero (monomials own) → AreRising (monomials other) × AreNonZero (monomials other) → CanCancel (row_by j own) (row_by k other)
+can_be_combined own other own_rest other_rest p q j k e f c a b g h = record {
+  column = p.1;
+  first = p.0;
+  second = q.0;
+  of_first = greatest_at j own own_rest p p.1 e refl g;
+  of_second = greatest_at k other other_rest q p.1 f (sym c) h;
+  opposite = opposite p.0 q.0 a b;
+  first_rises = g.0;
+  second_rises = h.0;
+}

@@ -1,6 +1,7 @@
-ghost use Rattle.std.specs.Prelude.{map, IsTrue};
+ghost use Rattle.std.specs.Prelude.{map, IsTrue, ℤ};
 ghost use Rattle.sv_row.specs.RowParts.{monomials, AreAbove, AreRising};
 ghost use Rattle.sv_cert.specs.PlainLogs.{plain_row};
+ghost use Rattle.sv_lin.specs.CancellingRows.{row_by, CanCancel};
 ghost use Rattle.sv_lin.specs.Eliminations.{AreNonZero, AreFormed};
 
 use sv_cert::Row;
@@ -43,4 +44,20 @@ fn is_before(column: usize, parts: &[(i128, usize)]) -> bool
         None => true,
         Some((&(_factor, next), _)) => column < next,
     }
+}
+
+/// Whether the rows of these parts have one greatest column, where the first has a positive number and the other a negative one.
+pub fn can_cancel(own: &[(i128, usize)], other: &[(i128, usize)]) -> bool
+    ensures { IsTrue result → (j k : ℤ) → CanCancel (row_by j own.now) (row_by k other.now) }
+{
+    let (Some((&(k, x), _)), Some((&(l, y), _))) = (own.split_last(), other.split_last()) else {
+        return false;
+    };
+    if x != y || k <= 0 || 0 <= l {
+        return false;
+    }
+    if !is_formed(own) {
+        return false;
+    }
+    is_formed(other)
 }

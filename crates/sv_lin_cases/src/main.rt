@@ -1,19 +1,19 @@
 //! A program that eliminates systems of rows, which it reads: cases worked by hand, and what the benchmark counts.
 //!
 //! Promises: nothing; `stdin` and `stdout` are written by hand.
-//! Stands on: `sv_lin`, `sv_cert`, `sv_term`, `sv_text`, `sqlite_items`, `anyhow`.
+//! Stands on: `sv_lin`, `sv_point`, `sv_cert`, `sv_term`, `sv_text`, `sqlite_items`, `anyhow`.
 #![tactic(auto)]
 
 mod check;
 mod print;
 mod read;
 
-use crate::check::are_formed;
-use crate::print::{print_answer, print_count};
+use crate::check::{are_formed, can_cancel};
+use crate::print::{print_answer, print_combination, print_count};
 use crate::read::row_of;
 use anyhow::Error;
 use sv_cert::Row;
-use sv_lin::eliminate;
+use sv_lin::{combine_rows, eliminate};
 
 fn main(rt: HostRuntime) -> anyhow::Result<()> {
     let mut rows: Vec<Row> = Vec::new(rt.alloc());
@@ -27,6 +27,9 @@ fn main(rt: HostRuntime) -> anyhow::Result<()> {
             rows.clear();
         } else if let Some(command) = text.strip_prefix("count ") {
             eliminate_rows(&rt, &rows, command, true)?;
+            rows.clear();
+        } else if text == "combine" {
+            combine_two(&rt, &rows)?;
             rows.clear();
         } else {
             println!(rt; "{text}")?;
@@ -51,4 +54,17 @@ fn eliminate_rows(
     } else {
         print_answer(rt, &answer)
     }
+}
+
+fn combine_two(rt: &HostRuntime, rows: &[Row]) -> Result<(), Error> {
+    let [first, second] = rows else {
+        return Ok(());
+    };
+    let own = first.parts.as_slice();
+    let other = second.parts.as_slice();
+    if !can_cancel(own, other) {
+        return Ok(());
+    }
+    let made = combine_rows(rt.alloc(), first.constant, own, second.constant, other)?;
+    print_combination(rt, &made)
 }

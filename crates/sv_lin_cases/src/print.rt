@@ -1,7 +1,7 @@
 use anyhow::Error;
 use sqlite_items::Items;
-use sv_cert::{Entry, Row};
-use sv_lin::{Eliminated, Excess};
+use sv_cert::{Entry, Excess};
+use sv_lin::{Combination, Eliminated};
 use sv_term::TermId;
 
 /// Prints the entries and what they come to.
@@ -44,11 +44,11 @@ fn print_entries(rt: &HostRuntime, entries: &Items<Entry>) -> Result<(), Error> 
         match entry {
             Entry::Combine(m, p, n, q, row) => {
                 print!(rt; "k {m} {p} {n} {q} {}", row.constant)?;
-                print_row(rt, row)?;
+                print_parts(rt, row.parts.as_slice())?;
             }
             Entry::Divide(by, p, row) => {
                 print!(rt; "g {by} {p} {}", row.constant)?;
-                print_row(rt, row)?;
+                print_parts(rt, row.parts.as_slice())?;
             }
             _ => println!(rt; "another entry")?,
         }
@@ -56,8 +56,20 @@ fn print_entries(rt: &HostRuntime, entries: &Items<Entry>) -> Result<(), Error> 
     Ok(())
 }
 
-fn print_row(rt: &HostRuntime, row: &Row) -> Result<(), Error> {
-    for (factor, column) in row.parts.as_slice() {
+/// Prints the multipliers and the row.
+pub fn print_combination(rt: &HostRuntime, made: &Option<Combination>) -> Result<(), Error> {
+    match made {
+        Some(made) => {
+            print!(rt; "{} {} {}", made.m, made.n, made.constant)?;
+            print_parts(rt, made.parts.as_slice())?;
+        }
+        None => println!(rt; "too large")?,
+    }
+    Ok(())
+}
+
+fn print_parts(rt: &HostRuntime, parts: &[(i128, usize)]) -> Result<(), Error> {
+    for (factor, column) in parts {
         print!(rt; " {factor} {column}")?;
     }
     println!(rt; "")?;
@@ -71,6 +83,7 @@ fn print_excess(rt: &HostRuntime, excess: &Excess) -> Result<(), Error> {
             print!(rt; "value {i}")?;
             print_point(rt, point)?;
         }
+        _ => println!(rt; "another excess")?,
     }
     Ok(())
 }

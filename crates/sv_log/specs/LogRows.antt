@@ -7,6 +7,10 @@ use Rattle.sv_log.specs.LogEntries.{Monomial, Row}
 abbrev pub monomial : ℤ → ℕ → Monomial
 monomial k x = record { factor = k; column = x }
 
+-- a pair of a number and its column
+abbrev pub plain_monomial : ℤ × ℕ → Monomial
+plain_monomial p = monomial p.0 p.1
+
 abbrev pub row : ℤ → List Monomial → Row
 row k ps = record { constant = k; parts = ps }
 

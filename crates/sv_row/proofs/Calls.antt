@@ -6,8 +6,8 @@ use Rattle.std.specs.Prelude.{Result, IfOk}
 use lib.IntN.{ℤ, ◌+ℤ◌, ◌*ℤ◌}
 use Rattle.sv_num.specs.Range.{IsI128}
 use Rattle.sv_log.specs.LogEntries.{Monomial}
-use Rattle.sv_log.specs.LogRows.{monomial}
-use Rattle.sv_row.specs.RowParts.{monomial_of, monomials, AreAbove, AreRising, FitsMultiples, sum_of_multiples}
+use Rattle.sv_log.specs.LogRows.{plain_monomial, monomial}
+use Rattle.sv_row.specs.RowParts.{monomials, AreAbove, AreRising, FitsMultiples, sum_of_multiples}
 use Rattle.sv_row.specs.SumSteps.{part, AddsParts, FitsBoth}
 use Rattle.sv_row.proofs.Sums.{above_more, own_added, own_refused, other_added, other_refused, both_added, both_refused}
 
@@ -40,14 +40,14 @@ module _ (m n i j : ℤ) (im : i ≡ m) (jn : j ≡ n) (old mid new : List Monom
 
     pub own_stops : b ≡ false → FitsMultiples m (monomials own) n (monomials other) → ⊥
     own_stops s = subst (λ (o : List (ℤ × ℕ)). FitsMultiples m (monomials o) n (monomials other) → ⊥) (sym e)
-        (own_refused m n (monomial_of p) (monomials rest) (monomials other) above above_other old mid (subst (AddsParts (IsI128 (m *ℤ p.0)) (part (m *ℤ p.0) p.1) old mid) s own_step))
+        (own_refused m n (plain_monomial p) (monomials rest) (monomials other) above above_other old mid (subst (AddsParts (IsI128 (m *ℤ p.0)) (part (m *ℤ p.0) p.1) old mid) s own_step))
 
     pub own_goes_on : {E : Type 0} (r : Result Bool E) → b ≡ true → IfOk r (Adds i rest j other mid new) → IfOk r (Adds m own n other old new)
     own_goes_on r s c = IfOk-weaker r (Adds i rest j other mid new) (Adds m own n other old new)
         (λ fits g.
         let d = subst (AddsParts (IsI128 (m *ℤ p.0)) (part (m *ℤ p.0) p.1) old mid) s own_step in
         subst (λ (o : List (ℤ × ℕ)). Adds m o n other old new fits) (sym e)
-        (own_added m n (monomial_of p) (monomials rest) (monomials other) above above_other old mid new fits d.0 d.1 (at_own rest other fits g)))
+        (own_added m n (plain_monomial p) (monomials rest) (monomials other) above above_other old mid new fits d.0 d.1 (at_own rest other fits g)))
         c
 
   module _ (own other rest : List (ℤ × ℕ)) (q : ℤ × ℕ) (l : ℤ) (b : Bool) (e : other ≡ q ∷ rest) (le : l ≡ q.0)
@@ -57,14 +57,14 @@ module _ (m n i j : ℤ) (im : i ≡ m) (jn : j ≡ n) (old mid new : List Monom
 
     pub other_stops : b ≡ false → FitsMultiples m (monomials own) n (monomials other) → ⊥
     other_stops s = subst (λ (o : List (ℤ × ℕ)). FitsMultiples m (monomials own) n (monomials o) → ⊥) (sym e)
-        (other_refused m n (monomials own) (monomial_of q) (monomials rest) above old mid (subst (AddsParts (IsI128 (n *ℤ q.0)) (monomial (n *ℤ q.0) q.1 ∷ []) old mid) s other_step))
+        (other_refused m n (monomials own) (plain_monomial q) (monomials rest) above old mid (subst (AddsParts (IsI128 (n *ℤ q.0)) (monomial (n *ℤ q.0) q.1 ∷ []) old mid) s other_step))
 
     pub other_goes_on : {E : Type 0} (r : Result Bool E) → b ≡ true → IfOk r (Adds i own j rest mid new) → IfOk r (Adds m own n other old new)
     other_goes_on r s c = IfOk-weaker r (Adds i own j rest mid new) (Adds m own n other old new)
         (λ fits g.
         let d = subst (AddsParts (IsI128 (n *ℤ q.0)) (monomial (n *ℤ q.0) q.1 ∷ []) old mid) s other_step in
         subst (λ (o : List (ℤ × ℕ)). Adds m own n o old new fits) (sym e)
-        (other_added m n (monomials own) (monomial_of q) (monomials rest) above old mid new fits d.0 d.1 (at_own own rest fits g)))
+        (other_added m n (monomials own) (plain_monomial q) (monomials rest) above old mid new fits d.0 d.1 (at_own own rest fits g)))
         c
 
   module _ (own own_rest other other_rest : List (ℤ × ℕ)) (p q : ℤ × ℕ) (k l : ℤ) (b : Bool) (e : own ≡ p ∷ own_rest) (f : other ≡ q ∷ other_rest) (ke : k ≡ p.0) (le : l ≡ q.0)
@@ -79,8 +79,8 @@ module _ (m n i j : ℤ) (im : i ≡ m) (jn : j ≡ n) (old mid new : List Monom
     pub both_stop : b ≡ false → FitsMultiples m (monomials own) n (monomials other) → ⊥
     both_stop s =
         subst (λ (o : List (ℤ × ℕ)). FitsMultiples m (monomials o) n (monomials other) → ⊥) (sym e)
-        (subst (λ (o : List (ℤ × ℕ)). FitsMultiples m (monomial_of p ∷ monomials own_rest) n (monomials o) → ⊥) (sym f)
-        (both_refused m n (monomial_of p) (monomials own_rest) (monomial_of q) (monomials other_rest) above same old mid
+        (subst (λ (o : List (ℤ × ℕ)). FitsMultiples m (plain_monomial p ∷ monomials own_rest) n (monomials o) → ⊥) (sym f)
+        (both_refused m n (plain_monomial p) (monomials own_rest) (plain_monomial q) (monomials other_rest) above same old mid
         (subst (AddsParts (FitsBoth m p.0 n q.0) (part (m *ℤ p.0 +ℤ n *ℤ q.0) p.1) old mid) s both_step)))
 
     pub both_go_on : {E : Type 0} (r : Result Bool E) → b ≡ true → IfOk r (Adds i own_rest j other_rest mid new) → IfOk r (Adds m own n other old new)
@@ -89,5 +89,5 @@ module _ (m n i j : ℤ) (im : i ≡ m) (jn : j ≡ n) (old mid new : List Monom
         let d = subst (AddsParts (FitsBoth m p.0 n q.0) (part (m *ℤ p.0 +ℤ n *ℤ q.0) p.1) old mid) s both_step in
         subst (λ (o : List (ℤ × ℕ)). Adds m o n other old new fits) (sym e)
         (subst (λ (o : List (ℤ × ℕ)). Adds m (p ∷ own_rest) n o old new fits) (sym f)
-        (both_added m n (monomial_of p) (monomials own_rest) (monomial_of q) (monomials other_rest) above same old mid new fits d.0 d.1 (at_own own_rest other_rest fits g))))
+        (both_added m n (plain_monomial p) (monomials own_rest) (plain_monomial q) (monomials other_rest) above same old mid new fits d.0 d.1 (at_own own_rest other_rest fits g))))
         c

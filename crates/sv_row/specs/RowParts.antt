@@ -4,14 +4,10 @@ use Rattle.std.specs.List.{All}
 use Rattle.std.specs.Int.{◌∣◌}
 use Rattle.sv_num.specs.Range.{IsI128}
 use Rattle.sv_log.specs.LogEntries.{Monomial}
-use Rattle.sv_log.specs.LogRows.{monomial, with_parts, times_parts}
-
--- a number and its column
-abbrev pub monomial_of : ℤ × ℕ → Monomial
-monomial_of p = monomial p.0 p.1
+use Rattle.sv_log.specs.LogRows.{plain_monomial, with_parts, times_parts}
 
 abbrev pub monomials : List (ℤ × ℕ) → List Monomial
-monomials ps = map monomial_of ps
+monomials ps = map plain_monomial ps
 
 -- ---- columns that rise
 

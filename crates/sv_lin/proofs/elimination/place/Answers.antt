@@ -23,7 +23,7 @@ returns-in-All c =
     let p = at_all (force c.args.rows.now c.args.work.made.items) c.args.columns.now c.in_ok-placing.placing c.in-All.places c.in-All.is c.in_ok-placing.ensures in
     point_answers c.with_point.result (given c.args.rows.now) (entries_of c.args.work.made.items) (map placed c.as_slice.result.now) c.with_point.ensures
     (subst (λ ps. IsPoint (given c.args.rows.now) (entries_of c.args.work.made.items) (map placed ps)) (sym c.as_slice.ensures.value)
-    (is_point (given c.args.rows.now) c.requires.limit (entries_of c.args.work.made.items) c.requires.way c.args.columns.now c.requires.columns c.requires.complete c.in-All.places.items p))
+    (is_point (given c.args.rows.now) c.requires.limit (entries_of c.args.work.made.items) c.requires.way c.args.columns.now c.requires.columns c.requires.complete c.requires.divided c.in-All.places.items p))
 
 pub with_value-requires : goal.with_value-requires
 with_value-requires c =
@@ -34,6 +34,6 @@ pub returns-in-Exceeds : goal.returns-in-Exceeds
 returns-in-Exceeds c =
     let s = at_stop (force c.args.rows.now c.args.work.made.items) c.args.columns.now c.in_ok-placing.placing c.in-Exceeds.number c.in-Exceeds.places c.in-Exceeds.is c.in_ok-placing.ensures in
     value_answers c.with_value.result (given c.args.rows.now) (entries_of c.args.work.made.items) c.in-Exceeds.number (map placed c.as_slice-in-Exceeds.result.now) c.with_value.ensures
-    (is_excess (given c.args.rows.now) c.requires.limit (entries_of c.args.work.made.items) c.requires.way)
+    (is_excess (given c.args.rows.now) c.requires.limit (entries_of c.args.work.made.items) c.requires.way c.requires.divided)
     (subst (λ ps. IsExceedingValue (given c.args.rows.now) (entries_of c.args.work.made.items) c.in-Exceeds.number (map placed ps)) (sym c.as_slice-in-Exceeds.ensures.value)
-    (exceeds_value (given c.args.rows.now) c.requires.limit (entries_of c.args.work.made.items) c.requires.way c.args.columns.now c.requires.columns c.requires.complete c.in-Exceeds.places.items c.in-Exceeds.number s))
+    (exceeds_value (given c.args.rows.now) c.requires.limit (entries_of c.args.work.made.items) c.requires.way c.args.columns.now c.requires.columns c.requires.complete c.requires.divided c.in-Exceeds.places.items c.in-Exceeds.number s))

@@ -3,7 +3,8 @@ use Rattle.std.specs.Prelude.{FitsSigned}
 use Rattle.std.proofs.lemmas.Int.{to_z-of_z}
 use Rattle.std.proofs.lemmas.List.{drop_more, drop_all}
 use mir.Syntax.{w128}
-use Rattle.sv_row.specs.RowParts.{monomial_of, monomials}
+use Rattle.sv_log.specs.LogRows.{plain_monomial}
+use Rattle.sv_row.specs.RowParts.{monomials}
 use Rattle.sv_row.proofs.Divisions.{IsDivisorSoFar, one_more, all_so_far}
 use Rattle.sv_row.proofs.division.divisor.Goals as goal
 
@@ -12,7 +13,7 @@ loop-k-preserved c =
     let lt : c.loop-k.k-index < length c.args.parts.now = omega arith in
     let f : FitsSigned w128 (get_or c.args.parts.now c.loop-k.k-index (pos 0, 0)).0 = search rules in
     let e = drop_more c.args.parts.now c.loop-k.k-index (pos 0, 0) lt in
-    one_more (monomials c.args.parts.now) (monomials (drop (c.loop-k.k-index + 1) c.args.parts.now)) (monomial_of (get_or c.args.parts.now c.loop-k.k-index (pos 0, 0)))
+    one_more (monomials c.args.parts.now) (monomials (drop (c.loop-k.k-index + 1) c.args.parts.now)) (plain_monomial (get_or c.args.parts.now c.loop-k.k-index (pos 0, 0)))
     c.loop-k.divisor c.unsigned_abs.result c.gcd-divisor.result
     (c.unsigned_abs.ensures.value ∙ ap unsigned_abs (to_z-of_z w128 (get_or c.args.parts.now c.loop-k.k-index (pos 0, 0)).0 f))
     c.gcd-divisor.ensures
