@@ -1,0 +1,6 @@
+mod Merging
+mod Cancelling
+mod Combining
+mod Dividing
+mod Heads
+mod Walking

@@ -1,0 +1,2 @@
+pub mod NormalRows
+pub mod Columns
