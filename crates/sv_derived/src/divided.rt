@@ -5,13 +5,7 @@ ghost use Rattle.sv_row.specs.RowParts.{monomials};
 use sv_num::{ceil_div, mul};
 
 /// Whether the row of constant `t` and parts `made` is the row of `k` and `own` with each number divided by `d`, at least 2, and the constant's quotient rounded up.
-pub fn is_divided(
-    d: i128,
-    k: i128,
-    own: &[(i128, usize)],
-    t: i128,
-    made: &[(i128, usize)],
-) -> bool
+pub fn is_divided(d: i128, k: i128, own: &[(i128, usize)], t: i128, made: &[(i128, usize)]) -> bool
     ensures { IsTrue result
         ↔ IsDivided d (row k (monomials own.now)) (row t (monomials made.now)) }
 {

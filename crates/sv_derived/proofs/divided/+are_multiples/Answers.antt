@@ -27,8 +27,11 @@ returns-then-not-is_multiple n c =
     let g : FitsSigned w128 c.in-Some-split_first.field-0-0.now.0 = search rules in
     refuses (monomials c.args.multiples.now ≡ times_parts c.args.d (monomials c.args.parts.now)) false refl
     (not_multiple c.args.d c.args.parts.now c.in-Some.rest.now c.in-Some.field-0-0.now c.in-Some.ensures.cases.0 c.args.multiples.now c.in-Some-split_first.others.now c.in-Some-split_first.field-0-0.now c.in-Some-split_first.ensures.cases.0
-    (λ e. cc (c.if-not-is_multiple.true, (multiple_read c.args.d c.in-Some.field-0-0.now.0 c.in-Some-split_first.field-0-0.now.0 _ _ _ (to_z-of_z w128 c.args.d c.ranges.d)
-    (to_z-of_z w128 c.in-Some.field-0-0.now.0 f) (to_z-of_z w128 c.in-Some-split_first.field-0-0.now.0 g) c.is_multiple.result c.is_multiple.ensures).1 e)))
+    (λ e. cc (
+      c.if-not-is_multiple.true,
+      (multiple_read c.args.d c.in-Some.field-0-0.now.0 c.in-Some-split_first.field-0-0.now.0 _ _ _ (to_z-of_z w128 c.args.d c.ranges.d)
+          (to_z-of_z w128 c.in-Some.field-0-0.now.0 f) (to_z-of_z w128 c.in-Some-split_first.field-0-0.now.0 g) c.is_multiple.result c.is_multiple.ensures).1 e,
+    )))
 
 pub returns : goal.returns
 returns n c =
