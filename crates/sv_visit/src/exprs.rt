@@ -100,7 +100,6 @@ fn walk_suffixes<J: Judge>(j: &mut J, list: &[Suffix]) -> Result<(), J::Stop>
     Ok(())
 }
 
-#[tactic(auto, using(crate::proofs::Parts::visiting))]
 #[cycle(visiting)]
 fn walk_suffix<J: Judge>(j: &mut J, s: &Suffix) -> Result<(), J::Stop>
     ensures { Walked J.book (suffix_walk (plain_suffix s.now))
@@ -117,7 +116,6 @@ fn walk_suffix<J: Judge>(j: &mut J, s: &Suffix) -> Result<(), J::Stop>
 }
 
 /// Walks over the arguments of a call.
-#[tactic(auto, using(crate::proofs::Parts::visiting))]
 #[cycle(visiting)]
 pub fn walk_args<J: Judge>(j: &mut J, args: &Args) -> Result<(), J::Stop>
     ensures { Walked J.book (args_walk (plain_args args.now))
@@ -128,7 +126,6 @@ pub fn walk_args<J: Judge>(j: &mut J, args: &Args) -> Result<(), J::Stop>
     j.leave_use(Use::Args(args), before)
 }
 
-#[tactic(auto, using(crate::proofs::Parts::visiting))]
 #[cycle(visiting)]
 fn walk_args_kind<J: Judge>(j: &mut J, k: &ArgsKind) -> Result<(), J::Stop>
     ensures { WalkedIn J.book (args_kind_parts (plain_args_kind k.now))
@@ -160,7 +157,6 @@ fn walk_named<J: Judge>(j: &mut J, list: &[NamedArg]) -> Result<(), J::Stop>
     Ok(())
 }
 
-#[tactic(auto, using(crate::proofs::Parts::visiting))]
 #[cycle(visiting)]
 fn walk_named_arg<J: Judge>(j: &mut J, a: &NamedArg) -> Result<(), J::Stop>
     ensures { Walked J.book (named_arg_walk (plain_named_arg a.now))
@@ -170,7 +166,6 @@ fn walk_named_arg<J: Judge>(j: &mut J, a: &NamedArg) -> Result<(), J::Stop>
 }
 
 /// Walks over a type.
-#[tactic(auto, using(crate::proofs::Parts::visiting))]
 #[cycle(visiting)]
 pub fn walk_type<J: Judge>(j: &mut J, t: &TypeExpr) -> Result<(), J::Stop>
     ensures { Walked J.book (type_walk (plain_type_expr t.now))
@@ -189,7 +184,6 @@ fn walk_type_parts<J: Judge>(j: &mut J, p: &Plain, list: &[Dimension]) -> Result
     walk_lengths(j, list)
 }
 
-#[tactic(auto, using(crate::proofs::Parts::visiting))]
 #[cycle(visiting)]
 fn walk_plain<J: Judge>(j: &mut J, p: &Plain) -> Result<(), J::Stop>
     ensures { Walked J.book (plain_walk (plain_plain p.now))
@@ -200,7 +194,6 @@ fn walk_plain<J: Judge>(j: &mut J, p: &Plain) -> Result<(), J::Stop>
     j.leave_use(Use::Plain(p), before)
 }
 
-#[tactic(auto, using(crate::proofs::Parts::visiting))]
 #[cycle(visiting)]
 fn walk_plain_kind<J: Judge>(j: &mut J, k: &PlainKind) -> Result<(), J::Stop>
     ensures { WalkedIn J.book (plain_parts (plain_plain_kind k.now))
@@ -238,7 +231,6 @@ fn walk_lengths<J: Judge>(j: &mut J, list: &[Dimension]) -> Result<(), J::Stop>
     Ok(())
 }
 
-#[tactic(auto, using(crate::proofs::Parts::visiting))]
 #[cycle(visiting)]
 fn walk_length<J: Judge>(j: &mut J, d: &Dimension) -> Result<(), J::Stop>
     ensures { Walked J.book (length_walk (plain_dimension d.now))
