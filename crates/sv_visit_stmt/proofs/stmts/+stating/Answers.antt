@@ -1,5 +1,6 @@
 use Rattle.std.proofs.Common.{arith}
 use Rattle.std.proofs.lemmas.Grind.{common_steps}
+use Rattle.sv_ast.specs.declared.stmt.BodyKind.TheFolds.{the_lemmas}
 use Rattle.sv_visit_stmt.proofs.Parts.{stating}
 use Rattle.sv_visit_stmt.proofs.stmts.+stating.Goals as goal
 
@@ -125,3 +126,57 @@ walk_while-returns-in_err-walk_notes g t c = grind (arith, common_steps, stating
 
 pub walk_while-returns : goal.walk_while-returns
 walk_while-returns g t c = grind (arith, common_steps, stating)
+
+pub walk_block-walk_stmts-requires : goal.walk_block-walk_stmts-requires
+walk_block-walk_stmts-requires g t c κs within = grind (arith, the_lemmas)
+
+pub walk_body-walk_block-requires : goal.walk_body-walk_block-requires
+walk_body-walk_block-requires g t c κs within = grind (arith, the_lemmas)
+
+pub walk_branch-walk_guarded-requires : goal.walk_branch-walk_guarded-requires
+walk_branch-walk_guarded-requires g t c κs within = grind (arith, the_lemmas)
+
+pub walk_branches-walk_branch-requires : goal.walk_branches-walk_branch-requires
+walk_branches-walk_branch-requires g t c κs within = grind (arith, the_lemmas)
+
+pub walk_else-walk_body-requires : goal.walk_else-walk_body-requires
+walk_else-walk_body-requires g t c κs within = grind (arith, the_lemmas)
+
+pub walk_for-walk_body-requires : goal.walk_for-walk_body-requires
+walk_for-walk_body-requires g t c κs within = grind (arith, the_lemmas)
+
+pub walk_if-walk_guarded-requires : goal.walk_if-walk_guarded-requires
+walk_if-walk_guarded-requires g t c κs within = grind (arith, the_lemmas)
+
+pub walk_if-walk_branches-requires : goal.walk_if-walk_branches-requires
+walk_if-walk_branches-requires g t c κs within = grind (arith, the_lemmas)
+
+pub walk_if-walk_else-requires : goal.walk_if-walk_else-requires
+walk_if-walk_else-requires g t c κs within = grind (arith, the_lemmas)
+
+pub walk_stmt-walk_stmt_kind-requires : goal.walk_stmt-walk_stmt_kind-requires
+walk_stmt-walk_stmt_kind-requires g t c κs within = grind (arith, the_lemmas)
+
+pub walk_stmt_kind-walk_block-requires : goal.walk_stmt_kind-walk_block-requires
+walk_stmt_kind-walk_block-requires g t c κs within = grind (arith, the_lemmas)
+
+pub walk_stmt_kind-walk_if-requires : goal.walk_stmt_kind-walk_if-requires
+walk_stmt_kind-walk_if-requires g t c κs within = grind (arith, the_lemmas)
+
+pub walk_stmt_kind-walk_while-requires : goal.walk_stmt_kind-walk_while-requires
+walk_stmt_kind-walk_while-requires g t c κs within = grind (arith, the_lemmas)
+
+pub walk_stmt_kind-walk_for-requires : goal.walk_stmt_kind-walk_for-requires
+walk_stmt_kind-walk_for-requires g t c κs within = grind (arith, the_lemmas)
+
+pub walk_stmts-walk_stmt-requires : goal.walk_stmts-walk_stmt-requires
+walk_stmts-walk_stmt-requires g t c κs within = grind (arith, the_lemmas)
+
+pub walk_while-walk_guarded-requires : goal.walk_while-walk_guarded-requires
+walk_while-walk_guarded-requires g t c κs within = grind (arith, the_lemmas)
+
+pub walk_stmt_kind-walk_block-requires-in-Unchecked : goal.walk_stmt_kind-walk_block-requires-in-Unchecked
+walk_stmt_kind-walk_block-requires-in-Unchecked g t c κs within = grind (arith, the_lemmas)
+
+pub walk_guarded-walk_body-requires : goal.walk_guarded-walk_body-requires
+walk_guarded-walk_body-requires g t c κs within = grind (arith, the_lemmas)
