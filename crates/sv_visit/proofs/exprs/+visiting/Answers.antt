@@ -27,12 +27,6 @@ walk_args_kind-returns-in-Positional g t c = grind (arith, visiting)
 pub walk_args_kind-returns-in-Named : goal.walk_args_kind-returns-in-Named
 walk_args_kind-returns-in-Named g t c = grind (arith, visiting)
 
-pub walk_expr-walk_view-requires : goal.walk_expr-walk_view-requires
-walk_expr-walk_view-requires g t c κs within = grind (arith, visiting)
-
-pub walk_expr-returns : goal.walk_expr-returns
-walk_expr-returns g t c = grind (arith, visiting)
-
 pub walk_exprs-loop-e-init : goal.walk_exprs-loop-e-init
 walk_exprs-loop-e-init g t c = grind (arith, visiting)
 
@@ -207,17 +201,14 @@ walk_named_arg-walk_expr-requires g t c κs within = grind (arith, visiting)
 pub walk_named_arg-returns : goal.walk_named_arg-returns
 walk_named_arg-returns g t c = grind (arith, visiting)
 
-pub walk_pair-walk_type-requires : goal.walk_pair-walk_type-requires
-walk_pair-walk_type-requires g t c κs within = grind (arith, visiting)
+pub walk_plain_kind-walk_type-requires : goal.walk_plain_kind-walk_type-requires
+walk_plain_kind-walk_type-requires g t c κs within = grind (arith, visiting)
 
-pub walk_pair-returns-in_err-walk_type : goal.walk_pair-returns-in_err-walk_type
-walk_pair-returns-in_err-walk_type g t c = grind (arith, visiting)
+pub walk_plain_kind-returns-in_err-walk_type-in-Mapping : goal.walk_plain_kind-returns-in_err-walk_type-in-Mapping
+walk_plain_kind-returns-in_err-walk_type-in-Mapping g t c = grind (arith, visiting)
 
-pub walk_pair-walk_type-requires-2 : goal.walk_pair-walk_type-requires-2
-walk_pair-walk_type-requires-2 g t c κs within = grind (arith, visiting)
-
-pub walk_pair-returns : goal.walk_pair-returns
-walk_pair-returns g t c = grind (arith, visiting)
+pub walk_plain_kind-walk_type-requires-in-Mapping : goal.walk_plain_kind-walk_type-requires-in-Mapping
+walk_plain_kind-walk_type-requires-in-Mapping g t c κs within = grind (arith, visiting)
 
 pub walk_plain-returns-in_err-before : goal.walk_plain-returns-in_err-before
 walk_plain-returns-in_err-before g t c = grind (arith, visiting)
@@ -231,9 +222,6 @@ walk_plain-returns-in_err-walk_plain_kind g t c = grind (arith, visiting)
 pub walk_plain-returns : goal.walk_plain-returns
 walk_plain-returns g t c = grind (arith, visiting)
 
-pub walk_plain_kind-walk_pair-requires : goal.walk_plain_kind-walk_pair-requires
-walk_plain_kind-walk_pair-requires g t c κs within = grind (arith, visiting)
-
 pub walk_plain_kind-returns-in-Elementary : goal.walk_plain_kind-returns-in-Elementary
 walk_plain_kind-returns-in-Elementary g t c = grind (arith, visiting)
 
@@ -246,8 +234,8 @@ walk_plain_kind-returns-in-String g t c = grind (arith, visiting)
 pub walk_plain_kind-returns-in-Named : goal.walk_plain_kind-returns-in-Named
 walk_plain_kind-returns-in-Named g t c = grind (arith, visiting)
 
-pub walk_plain_kind-returns-in-Mapping : goal.walk_plain_kind-returns-in-Mapping
-walk_plain_kind-returns-in-Mapping g t c = grind (arith, visiting)
+pub walk_plain_kind-returns-in_ok-walk_type-in-Mapping : goal.walk_plain_kind-returns-in_ok-walk_type-in-Mapping
+walk_plain_kind-returns-in_ok-walk_type-in-Mapping g t c = grind (arith, visiting)
 
 pub walk_rest-operands-init : goal.walk_rest-operands-init
 walk_rest-operands-init g t c = grind (arith, visiting)
@@ -330,35 +318,29 @@ walk_two-returns g t c = grind (arith, visiting)
 pub walk_type-returns-in_err-before : goal.walk_type-returns-in_err-before
 walk_type-returns-in_err-before g t c = grind (arith, visiting)
 
-pub walk_type-walk_type_parts-requires : goal.walk_type-walk_type_parts-requires
-walk_type-walk_type_parts-requires g t c κs within = grind (arith, visiting)
-
-pub walk_type-returns-in_err-walk_type_parts : goal.walk_type-returns-in_err-walk_type_parts
-walk_type-returns-in_err-walk_type_parts g t c = grind (arith, visiting)
-
 pub walk_type-returns : goal.walk_type-returns
 walk_type-returns g t c = grind (arith, visiting)
 
-pub walk_type_parts-walk_plain-requires : goal.walk_type_parts-walk_plain-requires
-walk_type_parts-walk_plain-requires g t c κs within = grind (arith, visiting)
+pub walk_type-walk_plain-requires : goal.walk_type-walk_plain-requires
+walk_type-walk_plain-requires g t c κs within = grind (arith, visiting)
 
-pub walk_type_parts-returns-in_err-walk_plain : goal.walk_type_parts-returns-in_err-walk_plain
-walk_type_parts-returns-in_err-walk_plain g t c = grind (arith, visiting)
+pub walk_type-returns-in_err-walk_plain : goal.walk_type-returns-in_err-walk_plain
+walk_type-returns-in_err-walk_plain g t c = grind (arith, visiting)
 
-pub walk_type_parts-walk_lengths-requires : goal.walk_type_parts-walk_lengths-requires
-walk_type_parts-walk_lengths-requires g t c κs within = grind (arith, visiting)
+pub walk_type-walk_lengths-requires : goal.walk_type-walk_lengths-requires
+walk_type-walk_lengths-requires g t c κs within = grind (arith, visiting)
 
-pub walk_type_parts-returns : goal.walk_type_parts-returns
-walk_type_parts-returns g t c = grind (arith, visiting)
+pub walk_expr-returns-in_err-before : goal.walk_expr-returns-in_err-before
+walk_expr-returns-in_err-before g t c = grind (arith, visiting)
 
-pub walk_view-returns-in_err-before : goal.walk_view-returns-in_err-before
-walk_view-returns-in_err-before g t c = grind (arith, visiting)
+pub walk_expr-walk_kind-requires : goal.walk_expr-walk_kind-requires
+walk_expr-walk_kind-requires g t c κs within = grind (arith, visiting)
 
-pub walk_view-walk_kind-requires : goal.walk_view-walk_kind-requires
-walk_view-walk_kind-requires g t c κs within = grind (arith, visiting)
+pub walk_expr-returns-in_err-walk_kind : goal.walk_expr-returns-in_err-walk_kind
+walk_expr-returns-in_err-walk_kind g t c = grind (arith, visiting)
 
-pub walk_view-returns-in_err-walk_kind : goal.walk_view-returns-in_err-walk_kind
-walk_view-returns-in_err-walk_kind g t c = grind (arith, visiting)
+pub walk_expr-returns : goal.walk_expr-returns
+walk_expr-returns g t c = grind (arith, visiting)
 
-pub walk_view-returns : goal.walk_view-returns
-walk_view-returns g t c = grind (arith, visiting)
+pub walk_type-returns-in_err-walk_lengths : goal.walk_type-returns-in_err-walk_lengths
+walk_type-returns-in_err-walk_lengths g t c = grind (arith, visiting)
