@@ -1,0 +1,4 @@
+pub mod BuiltLists
+pub mod SortCells
+pub mod CellCodes
+pub mod SortAdding
