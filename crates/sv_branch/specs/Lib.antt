@@ -1,0 +1,4 @@
+pub mod OpenBranches
+pub mod Stacks
+pub mod BranchTrees
+pub mod BranchLaws
