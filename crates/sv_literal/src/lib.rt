@@ -111,7 +111,7 @@ fn kind_value(kind: Unit10Kind) -> u128
 /// What the digits behind the `e` at a place are worth, or none from 2^128 on.
 fn exponent_value(text: &[u8], at: usize) -> Option<u128>
     requires { at ≤ length text.now }
-    ensures { SomeIff result (digits_worth 10 (drop (at + 1) text.now) < 2 ^ 128) (digits_worth 10 (drop (at + 1) text.now)) }
+    ensures { let n = digits_worth 10 (drop (at + 1) text.now) in SomeIff result (n < 2 ^ 128) n }
 {
     match text[at..].split_first() {
         None => Some(0),
