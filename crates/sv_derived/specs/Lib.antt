@@ -1,2 +1,2 @@
-pub mod RowSums
+pub mod NormalRows
 pub mod Columns

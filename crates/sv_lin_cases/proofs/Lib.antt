@@ -1,1 +1,1 @@
-mod NormalRowTests
+mod Forming
