@@ -9,7 +9,7 @@ use Rattle.sv_form.specs.declared.node.Linear.{Linear}
 use Rattle.sv_form.specs.declared.node.Linear.TheVariants.{Literal, Wide, Joined, Column, AtMost, Equal, Outside}
 use Rattle.sv_form.specs.Joins.{first_factor, second_factor}
 use Rattle.sv_form.specs.Nodes.{node_at, is_in_range, is_column_node, IsSoundNode, AreSound}
-use Rattle.sv_form.specs.Weights.{wrapped, weight_at, with_weight, passed, brought, HasArguments, weighed, Follows, AreSame, IsBlank, IsBlankAbove, CanSettle, IsSettling}
+use Rattle.sv_form.specs.TermWeights.{wrapped, weight_at, with_weight, passed, brought, HasArguments, weighed, Follows, AreSame, IsBlank, IsBlankAbove, CanSettle, IsSettling}
 use Rattle.sv_form.proofs.Weighing.{changed, passed_sum, same_sum, same_wrapped}
 
 -- ---- one weight

@@ -11,7 +11,7 @@ use Rattle.sv_form.specs.declared.node.Join.TheVariants.{Sum, Difference, Multip
 use Rattle.sv_form.specs.declared.node.Linear.{Linear}
 use Rattle.sv_form.specs.declared.node.Linear.TheVariants.{Literal, Wide, Joined, Column, AtMost, Equal, Outside}
 use Rattle.sv_form.specs.Joins.{joined, first_factor, second_factor}
-use Rattle.sv_form.specs.Weights.{wrapped, with_weight, passed, brought, HasArguments, weighed, number_by, AreSame, weight_at}
+use Rattle.sv_form.specs.TermWeights.{wrapped, with_weight, passed, brought, HasArguments, weighed, number_by, AreSame, weight_at}
 
 -- ---- numbers that differ by a multiple of 2^128
 

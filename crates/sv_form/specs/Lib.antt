@@ -1,3 +1,3 @@
 pub mod Joins
 pub mod Nodes
-pub mod Weights
+pub mod TermWeights

@@ -1,5 +1,5 @@
 ghost use Rattle.std.specs.Prelude.{◌≡◌, ◌<◌, length};
-ghost use Rattle.sv_form.specs.Weights.{with_weight, passed, brought, HasArguments, CanSettle, IsSettled, IsBlank, IsBlankAbove};
+ghost use Rattle.sv_form.specs.TermWeights.{with_weight, passed, brought, HasArguments, CanSettle, IsSettled, IsBlank, IsBlankAbove};
 
 use crate::joining::factors;
 use crate::node::Linear;

@@ -1,5 +1,5 @@
 use Rattle.std.proofs.Common.{◌≡◌, ◌+◌, ◌≤◌, ◌<◌, ℕ, length, pos}
-use Rattle.sv_form.specs.Weights.{weight_at}
+use Rattle.sv_form.specs.TermWeights.{weight_at}
 use Rattle.sv_form.proofs.weights.clear.Given as goal
 
 abbrev pub invariant-loop-left : goal.invariant-loop-left

@@ -5,7 +5,7 @@ use mir.Syntax.{w128}
 use mir.Val.{to_z}
 use Rattle.std.proofs.lemmas.List.{length-set}
 use Rattle.sv_form.specs.Nodes.{node_at}
-use Rattle.sv_form.specs.Weights.{wrapped}
+use Rattle.sv_form.specs.TermWeights.{wrapped}
 use Rattle.sv_form.proofs.Settling.{settling_starts, settle_on, read_arguments}
 use Rattle.sv_form.proofs.weights.settle.Goals as goal
 

@@ -1,6 +1,6 @@
 use Rattle.std.proofs.Common.{◌+◌, ◌≤◌, length}
 use Rattle.sv_form.specs.Nodes.{AreSound}
-use Rattle.sv_form.specs.Weights.{IsSettling}
+use Rattle.sv_form.specs.TermWeights.{IsSettling}
 use Rattle.sv_form.proofs.weights.settle.Given as goal
 
 abbrev pub invariant-loop-left : goal.invariant-loop-left
