@@ -1,5 +1,5 @@
 //! An expression of the syntax tree, seen by its form and without the levels of the grammar that add nothing.
-#![tactic(auto, using(crate::proofs::ExprViews::views))]
+#![tactic(auto)]
 
 ghost use Rattle.std.specs.Prelude.{◌≡◌};
 ghost use Rattle.sv_plain.specs.ExprFolds.{plain_expr, plain_or, plain_and, plain_same, plain_less, plain_sum, plain_prod, plain_term, plain_unary, plain_power, plain_post, plain_atom, plain_unary_operand, same_op, less_op, sum_op, prod_op};

@@ -4,11 +4,8 @@ use Rattle.sv_ast.specs.declared.expr.Expr.{Expr as ExprNode}
 use Rattle.sv_ast.specs.declared.post.NamedArg.{NamedArg as NamedArgNode}
 use Rattle.sv_ast.specs.declared.post.Suffix.{Suffix as SuffixNode}
 use Rattle.sv_ast.specs.declared.types.Dimension.{Dimension as DimensionNode}
-use Rattle.sv_ast.specs.declared.types.Plain.{Plain as PlainNode}
-use Rattle.sv_ast.specs.declared.types.TypeExpr.{TypeExpr as TypeExprNode}
 use Rattle.sv_plain.specs.declared.view.Node.{Node as NodeView}
 use Rattle.sv_plain.specs.declared.view.Rest.{Rest}
-use Rattle.sv_plain.specs.declared.view.View.{View}
 use Rattle.sv_plain.specs.PlainExprs.{Expr, Node, Kind, Choice, Chain, Prefix, Power, Applied, Number, Hexadecimal, Text, Truth, Name, Elementary, Address, Payable, OfType, New, Super, This, Paren, Operand, Operated, Operands, NoOperand, MoreOperands, Suffix, Suffixed, Suffixes, NoSuffix, MoreSuffixes, Step, Index, Member, Call, Value, Increment, Decrement, Args, Given, ArgsKind, Positional, Named, Exprs, NoExpr, MoreExprs, NamedArg, Arg, NamedArgs, NoArg, MoreArgs, TypeForm, Typed, PlainForm, Simply, PlainKind, ElementaryType, AddressType, StringType, NamedType, MappingType, Length, Open, Of, Lengths, NoLength, MoreLengths}
 use Rattle.sv_visit.specs.declared.judge.Role.{Role}
 use Rattle.sv_visit.specs.declared.judge.Role.TheVariants as role
@@ -16,7 +13,7 @@ use Rattle.sv_plain.specs.PlainExprs.{operands, suffixes, exprs, named_args, len
 use Rattle.sv_plain.specs.ExprFolds.{plain_expr, plain_suffix, plain_named_arg, plain_dimension, plain_type_expr, plain_plain, plain_args}
 use Rattle.sv_visit.specs.declared.judge.Use.{Use}
 use Rattle.sv_visit.specs.declared.judge.Use.TheVariants as used
-use Rattle.sv_plain.specs.ShownExprs.{expr_of, rest_of, shown}
+use Rattle.sv_plain.specs.ShownExprs.{expr_of, rest_of}
 use Rattle.sv_book.specs.Walks.{Walk, Walks, Node as Branch, Group, End, Part}
 use Rattle.sv_visit.specs.Sites.{Site, Expression, TypeUse, PlainUse, Arguing}
 
@@ -116,9 +113,6 @@ site_of (used.Args args) = Arguing (plain_args args.now)
 abbrev pub node_walk : Role → NodeView → Walk Site
 node_walk r e = expr_walk r (expr_of e)
 
-abbrev pub view_walk : Role → View → Walk Site
-view_walk r v = expr_walk r (shown v)
-
 abbrev pub two_walk : NodeView → NodeView → Walks Site
 two_walk a b = Part (node_walk role.Inner a) (Part (node_walk role.Inner b) End)
 
@@ -136,9 +130,3 @@ named_list list = named_walk (named_args (map plain_named_arg list))
 
 abbrev pub length_list : List DimensionNode → Walks Site
 length_list list = lengths_walk (lengths (map plain_dimension list))
-
-abbrev pub pair_walk : TypeExprNode → TypeExprNode → Walks Site
-pair_walk a b = Part (type_walk (plain_type_expr a)) (Part (type_walk (plain_type_expr b)) End)
-
-abbrev pub type_parts : PlainNode → List DimensionNode → Walks Site
-type_parts p list = Part (plain_walk (plain_plain p)) (length_list list)

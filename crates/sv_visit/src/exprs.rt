@@ -3,28 +3,22 @@
 
 ghost use Rattle.std.specs.Prelude.{◌≡◌, map, OnOk};
 ghost use Rattle.sv_plain.specs.ExprFolds.{plain_suffix, plain_args, plain_args_kind, plain_named_arg, plain_type_expr, plain_plain, plain_plain_kind, plain_dimension};
-ghost use Rattle.sv_plain.specs.ShownExprs.{expr_of, shown, kind_of};
+ghost use Rattle.sv_plain.specs.ShownExprs.{kind_of};
 ghost use Rattle.sv_book.specs.Visits.{Walked, WalkedIn};
-ghost use Rattle.sv_visit.specs.ExprSites.{expr_walk, view_walk, node_walk, kind_parts, two_walk, rest_walk, suffix_list, suffix_walk, args_walk, args_kind_parts, expr_list, named_list, named_arg_walk, type_walk, plain_walk, plain_parts, type_parts, pair_walk, length_list, length_walk};
+ghost use Rattle.sv_visit.specs.ExprSites.{expr_walk, node_walk, kind_parts, two_walk, rest_walk, suffix_list, suffix_walk, args_walk, args_kind_parts, expr_list, named_list, named_arg_walk, type_walk, plain_walk, plain_parts, length_list, length_walk};
 
 use crate::judge::{Judge, Role, Use};
 use sv_ast::{
     Args, ArgsKind, Dimension, Expr, NamedArg, Plain, PlainKind, Suffix, SuffixKind, TypeExpr,
 };
-use sv_plain::view::{Kind, Node, Rest, View, operand_of};
+use sv_plain::view::{Kind, Node, Rest, operand_of};
 
 /// Walks over an expression.
 #[cycle(visiting)]
 pub fn walk_expr<J: Judge>(j: &mut J, role: Role, e: Node<'_>) -> Result<(), J::Stop>
     ensures { Walked J.book (node_walk role e.entry) result (J.state j.old) (J.state j.new) }
 {
-    walk_view(j, role, e.view())
-}
-
-#[cycle(visiting)]
-fn walk_view<J: Judge>(j: &mut J, role: Role, v: View<'_>) -> Result<(), J::Stop>
-    ensures { Walked J.book (view_walk role v.entry) result (J.state j.old) (J.state j.new) }
-{
+    let v = e.view();
     let before = j.enter_expr(role, v)?;
     walk_kind(j, role, v.kind)?;
     j.leave_expr(role, v, before)
@@ -100,7 +94,6 @@ fn walk_suffixes<J: Judge>(j: &mut J, list: &[Suffix]) -> Result<(), J::Stop>
     Ok(())
 }
 
-#[tactic(auto, using(crate::proofs::Parts::visiting))]
 #[cycle(visiting)]
 fn walk_suffix<J: Judge>(j: &mut J, s: &Suffix) -> Result<(), J::Stop>
     ensures { Walked J.book (suffix_walk (plain_suffix s.now))
@@ -117,7 +110,6 @@ fn walk_suffix<J: Judge>(j: &mut J, s: &Suffix) -> Result<(), J::Stop>
 }
 
 /// Walks over the arguments of a call.
-#[tactic(auto, using(crate::proofs::Parts::visiting))]
 #[cycle(visiting)]
 pub fn walk_args<J: Judge>(j: &mut J, args: &Args) -> Result<(), J::Stop>
     ensures { Walked J.book (args_walk (plain_args args.now))
@@ -128,7 +120,6 @@ pub fn walk_args<J: Judge>(j: &mut J, args: &Args) -> Result<(), J::Stop>
     j.leave_use(Use::Args(args), before)
 }
 
-#[tactic(auto, using(crate::proofs::Parts::visiting))]
 #[cycle(visiting)]
 fn walk_args_kind<J: Judge>(j: &mut J, k: &ArgsKind) -> Result<(), J::Stop>
     ensures { WalkedIn J.book (args_kind_parts (plain_args_kind k.now))
@@ -160,7 +151,6 @@ fn walk_named<J: Judge>(j: &mut J, list: &[NamedArg]) -> Result<(), J::Stop>
     Ok(())
 }
 
-#[tactic(auto, using(crate::proofs::Parts::visiting))]
 #[cycle(visiting)]
 fn walk_named_arg<J: Judge>(j: &mut J, a: &NamedArg) -> Result<(), J::Stop>
     ensures { Walked J.book (named_arg_walk (plain_named_arg a.now))
@@ -170,26 +160,17 @@ fn walk_named_arg<J: Judge>(j: &mut J, a: &NamedArg) -> Result<(), J::Stop>
 }
 
 /// Walks over a type.
-#[tactic(auto, using(crate::proofs::Parts::visiting))]
 #[cycle(visiting)]
 pub fn walk_type<J: Judge>(j: &mut J, t: &TypeExpr) -> Result<(), J::Stop>
     ensures { Walked J.book (type_walk (plain_type_expr t.now))
         result (J.state j.old) (J.state j.new) }
 {
     let before = j.enter_use(Use::Type(t))?;
-    walk_type_parts(j, &t.plain, t.dimensions.as_slice())?;
+    walk_plain(j, &t.plain)?;
+    walk_lengths(j, t.dimensions.as_slice())?;
     j.leave_use(Use::Type(t), before)
 }
 
-#[cycle(visiting)]
-fn walk_type_parts<J: Judge>(j: &mut J, p: &Plain, list: &[Dimension]) -> Result<(), J::Stop>
-    ensures { WalkedIn J.book (type_parts p.now list.now) result (J.state j.old) (J.state j.new) }
-{
-    walk_plain(j, p)?;
-    walk_lengths(j, list)
-}
-
-#[tactic(auto, using(crate::proofs::Parts::visiting))]
 #[cycle(visiting)]
 fn walk_plain<J: Judge>(j: &mut J, p: &Plain) -> Result<(), J::Stop>
     ensures { Walked J.book (plain_walk (plain_plain p.now))
@@ -200,7 +181,6 @@ fn walk_plain<J: Judge>(j: &mut J, p: &Plain) -> Result<(), J::Stop>
     j.leave_use(Use::Plain(p), before)
 }
 
-#[tactic(auto, using(crate::proofs::Parts::visiting))]
 #[cycle(visiting)]
 fn walk_plain_kind<J: Judge>(j: &mut J, k: &PlainKind) -> Result<(), J::Stop>
     ensures { WalkedIn J.book (plain_parts (plain_plain_kind k.now))
@@ -216,16 +196,11 @@ fn walk_plain_kind<J: Judge>(j: &mut J, k: &PlainKind) -> Result<(), J::Stop>
             key_name: _,
             value,
             value_name: _,
-        } => walk_pair(j, key.get(), value.get()),
+        } => {
+            walk_type(j, key.get())?;
+            walk_type(j, value.get())
+        }
     }
-}
-
-#[cycle(visiting)]
-fn walk_pair<J: Judge>(j: &mut J, a: &TypeExpr, b: &TypeExpr) -> Result<(), J::Stop>
-    ensures { WalkedIn J.book (pair_walk a.now b.now) result (J.state j.old) (J.state j.new) }
-{
-    walk_type(j, a)?;
-    walk_type(j, b)
 }
 
 #[cycle(visiting)]
@@ -238,7 +213,6 @@ fn walk_lengths<J: Judge>(j: &mut J, list: &[Dimension]) -> Result<(), J::Stop>
     Ok(())
 }
 
-#[tactic(auto, using(crate::proofs::Parts::visiting))]
 #[cycle(visiting)]
 fn walk_length<J: Judge>(j: &mut J, d: &Dimension) -> Result<(), J::Stop>
     ensures { Walked J.book (length_walk (plain_dimension d.now))

@@ -1,5 +1,5 @@
 //! The walk over statements.
-#![tactic(auto, using(crate::proofs::Parts::stating))]
+#![tactic(auto)]
 
 ghost use Rattle.sv_plain.specs.PlainStmts.{plain_stmt, plain_stmt_kind, plain_block, plain_body, plain_else, plain_else_if, plain_if, plain_while, plain_for};
 ghost use Rattle.sv_book.specs.Visits.{Walked, WalkedIn};

@@ -1,7 +1,7 @@
 use Rattle.std.proofs.Common.{◌≡◌, ◌+◌, ◌*◌, ◌≤◌, drop, map}
 use Rattle.sv_plain.specs.PlainExprs.{operands, suffixes, exprs, named_args, lengths}
 use Rattle.sv_plain.specs.ExprFolds.{plain_suffix, plain_args, plain_args_kind, plain_expr, plain_named_arg, plain_type_expr, plain_plain, plain_plain_kind, plain_dimension}
-use Rattle.sv_plain.specs.ShownExprs.{expr_of, rest_of, shown, kind_of}
+use Rattle.sv_plain.specs.ShownExprs.{expr_of, rest_of, kind_of}
 use Rattle.sv_plain.proofs.Sizes.{size, kind_size, operands_size, suffixes_size, suffix_size, args_size, args_kind_size, exprs_size, named_args_size, named_arg_size, type_size, plain_form_size, plain_kind_size, lengths_size, length_size}
 use Rattle.sv_book.specs.Visits.{visit_in}
 use Rattle.sv_visit.specs.ExprSites.{rest_walk, suffix_list, expr_list, named_list, length_list}
@@ -9,9 +9,6 @@ use Rattle.sv_visit.proofs.exprs.+visiting.Given as goal
 
 abbrev pub decreases-walk_expr : goal.decreases-walk_expr
 decreases-walk_expr g l = 3 * size (expr_of l.e) + 1
-
-abbrev pub decreases-walk_view : goal.decreases-walk_view
-decreases-walk_view g l = 3 * size (shown l.v)
 
 abbrev pub decreases-walk_kind : goal.decreases-walk_kind
 decreases-walk_kind g l = 3 * kind_size (kind_of l.k)
@@ -46,17 +43,11 @@ decreases-walk_named_arg g l = 3 * named_arg_size (plain_named_arg l.a.now)
 abbrev pub decreases-walk_type : goal.decreases-walk_type
 decreases-walk_type g l = 3 * type_size (plain_type_expr l.t.now)
 
-abbrev pub decreases-walk_type_parts : goal.decreases-walk_type_parts
-decreases-walk_type_parts g l = 3 * (plain_form_size (plain_plain l.p.now) + lengths_size (lengths (map plain_dimension l.list.now))) + 2
-
 abbrev pub decreases-walk_plain_kind : goal.decreases-walk_plain_kind
 decreases-walk_plain_kind g l = 3 * plain_kind_size (plain_plain_kind l.k.now)
 
 abbrev pub decreases-walk_plain : goal.decreases-walk_plain
 decreases-walk_plain g l = 3 * plain_form_size (plain_plain l.p.now)
-
-abbrev pub decreases-walk_pair : goal.decreases-walk_pair
-decreases-walk_pair g l = 3 * (type_size (plain_type_expr l.a.now) + type_size (plain_type_expr l.b.now)) + 2
 
 abbrev pub decreases-walk_lengths : goal.decreases-walk_lengths
 decreases-walk_lengths g l = 3 * lengths_size (lengths (map plain_dimension l.list.now))

@@ -1,0 +1,7 @@
+use Rattle.std.proofs.Common.{arith}
+use Rattle.std.proofs.lemmas.Grind.{common_steps}
+use Rattle.sv_plain.proofs.ExprViews.{views}
+use Rattle.sv_plain.proofs.view.more.Goals as goal
+
+pub returns : goal.returns
+returns g c = grind (arith, common_steps, views)

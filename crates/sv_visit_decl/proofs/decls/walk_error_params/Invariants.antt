@@ -1,0 +1,8 @@
+use Rattle.std.proofs.Common.{◌≡◌, drop}
+use Rattle.sv_book.specs.Visits.{visit_in}
+use Rattle.sv_visit_decl.specs.DeclSites.{error_params_parts}
+use Rattle.sv_visit_decl.proofs.decls.walk_error_params.Given as goal
+
+abbrev pub invariant-loop-p : goal.invariant-loop-p
+invariant-loop-p g l =
+    (visit_in g.J.Judge.book (error_params_parts (drop l.p-index l.list)) (g.J.Judge.state l.j) ≡ visit_in g.J.Judge.book (error_params_parts l.list) (g.J.Judge.state l.fn.j))

@@ -1,0 +1,18 @@
+use Rattle.std.proofs.Common.{arith}
+use Rattle.std.proofs.lemmas.Grind.{common_steps}
+use Rattle.sv_visit_decl.proofs.decls.walk_variable.Goals as goal
+
+pub returns-in_err-before : goal.returns-in_err-before
+returns-in_err-before g c = grind (arith, common_steps)
+
+pub returns-in_err-walk_type : goal.returns-in_err-walk_type
+returns-in_err-walk_type g c = grind (arith, common_steps)
+
+pub returns-in_err-walk_words : goal.returns-in_err-walk_words
+returns-in_err-walk_words g c = grind (arith, common_steps)
+
+pub returns-in_err-walk_optional : goal.returns-in_err-walk_optional
+returns-in_err-walk_optional g c = grind (arith, common_steps)
+
+pub returns : goal.returns
+returns g c = grind (arith, common_steps)

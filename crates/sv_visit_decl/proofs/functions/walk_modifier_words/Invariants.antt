@@ -1,0 +1,8 @@
+use Rattle.std.proofs.Common.{◌≡◌, drop}
+use Rattle.sv_book.specs.Visits.{visit_in}
+use Rattle.sv_visit_decl.specs.DeclSites.{modifier_words_parts}
+use Rattle.sv_visit_decl.proofs.functions.walk_modifier_words.Given as goal
+
+abbrev pub invariant-loop-w : goal.invariant-loop-w
+invariant-loop-w g l =
+    (visit_in g.J.Judge.book (modifier_words_parts (drop l.w-index l.list)) (g.J.Judge.state l.j) ≡ visit_in g.J.Judge.book (modifier_words_parts l.list) (g.J.Judge.state l.fn.j))

@@ -1,0 +1,12 @@
+use Rattle.std.proofs.Common.{arith}
+use Rattle.std.proofs.lemmas.Grind.{common_steps}
+use Rattle.sv_visit_decl.proofs.functions.walk_special.Goals as goal
+
+pub returns-in_err-before : goal.returns-in_err-before
+returns-in_err-before g c = grind (arith, common_steps)
+
+pub returns-in_err-walk_special_parts : goal.returns-in_err-walk_special_parts
+returns-in_err-walk_special_parts g c = grind (arith, common_steps)
+
+pub returns : goal.returns
+returns g c = grind (arith, common_steps)

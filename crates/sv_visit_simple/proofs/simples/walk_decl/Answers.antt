@@ -1,0 +1,15 @@
+use Rattle.std.proofs.Common.{arith}
+use Rattle.std.proofs.lemmas.Grind.{common_steps}
+use Rattle.sv_visit_simple.proofs.simples.walk_decl.Goals as goal
+
+pub returns-in_err-before : goal.returns-in_err-before
+returns-in_err-before g c = grind (arith, common_steps)
+
+pub returns-in_err-walk_type : goal.returns-in_err-walk_type
+returns-in_err-walk_type g c = grind (arith, common_steps)
+
+pub returns-in_err-walk_optional : goal.returns-in_err-walk_optional
+returns-in_err-walk_optional g c = grind (arith, common_steps)
+
+pub returns : goal.returns
+returns g c = grind (arith, common_steps)

@@ -1,0 +1,12 @@
+use Rattle.std.proofs.Common.{arith}
+use Rattle.std.proofs.lemmas.Grind.{common_steps}
+use Rattle.sv_visit_unit.proofs.units.walk_base.Goals as goal
+
+pub returns-in_err-before : goal.returns-in_err-before
+returns-in_err-before g c = grind (arith, common_steps)
+
+pub returns-in_err-walk_optional_args : goal.returns-in_err-walk_optional_args
+returns-in_err-walk_optional_args g c = grind (arith, common_steps)
+
+pub returns : goal.returns
+returns g c = grind (arith, common_steps)
