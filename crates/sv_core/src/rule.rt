@@ -1,46 +1,5 @@
+use sv_rule::Rule;
 use sv_text::Place;
-
-/// A rule of the language, in the order of their numbers. A text that breaks one is refused with the rule's name.
-#[derive(Clone, Copy, Debug, PartialEq, Eq, PartialOrd, Ord)]
-pub enum Rule {
-    NoContract,
-    WideLiteral,
-    AddressLiteral,
-    Unchecked,
-    Note,
-    Placeholder,
-    Jump,
-    Assign,
-    Head,
-    Power,
-    Duplicate,
-    Unknown,
-    Line,
-    Override,
-    Overload,
-    Abstract,
-    Cycle,
-    BaseArgs,
-    Types,
-    Arity,
-    Location,
-    Mapping,
-    NotFlat,
-    WideConstant,
-    ConstExpr,
-    Immutable,
-    Value,
-    Target,
-    Use,
-    Sum,
-    Order,
-    Mutability,
-    CtorCall,
-    PayableCall,
-    StorageResult,
-    Recursion,
-    Size,
-}
 
 /// Why a tree has no list of contracts.
 #[derive(Clone, Copy, Debug, PartialEq, Eq)]

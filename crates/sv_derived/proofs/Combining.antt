@@ -7,7 +7,7 @@ use Rattle.sv_num.specs.Range.{IsI128}
 use Rattle.sv_log.specs.LogEntries.{Monomial, Row}
 use Rattle.sv_log.specs.LogRows.{plain_monomial, row, greatest, Cancels, IsCombined}
 use Rattle.sv_row.specs.RowParts.{monomials, AreInRange}
-use Rattle.sv_derived.specs.NormalRows.{IsSumOf, IsRowSum}
+use Rattle.sv_derived.specs.RowSums.{IsSumOf, IsRowSum}
 
 greatest_last : (ps : List Monomial) (p : Monomial) → greatest (ps ++ p ∷ []) ≡ Some p
 greatest_last [] p = refl

@@ -4,9 +4,8 @@ use Rattle.std.proofs.lemmas.List.{nil_from_length}
 use lib.IntN.{ℤ, pos}
 use Rattle.sv_log.specs.LogEntries.{Monomial}
 use Rattle.sv_log.specs.LogRows.{plain_monomial, monomial}
-use Rattle.sv_row.specs.RowParts.{monomials}
+use Rattle.sv_row.specs.RowParts.{monomials, IsNormal}
 use Rattle.sv_row.specs.SumSteps.{part}
-use Rattle.sv_derived.specs.NormalRows.{IsNormal}
 use Rattle.sv_derived.specs.Columns.{IsFrom, BeginsAt, IsLeast, TakesAt}
 use Rattle.sv_derived.proofs.Merging.{takes_none, takes_first, takes_later, part_zero, part_one}
 

@@ -9,10 +9,10 @@ use Rattle.sv_num.specs.Range.{IsI128}
 use Rattle.sv_fraction.proofs.Integers.{product_positive, negated_right}
 use Rattle.sv_log.specs.LogEntries.{Monomial}
 use Rattle.sv_log.specs.LogRows.{monomial, is_zero, times_parts}
-use Rattle.sv_row.specs.RowParts.{AreAbove, AreInRange, FitsMultiples, sum_of_multiples}
+use Rattle.sv_row.specs.RowParts.{AreAbove, AreInRange, FitsMultiples, sum_of_multiples, IsNormal}
 use Rattle.sv_row.specs.SumSteps.{part, FitsBoth}
 use Rattle.sv_row.proofs.Sums.{above_more, own_first, other_first, both_first}
-use Rattle.sv_derived.specs.NormalRows.{IsNormal, IsSumOf}
+use Rattle.sv_derived.specs.RowSums.{IsSumOf}
 use Rattle.sv_derived.specs.Columns.{BeginsAt, TakesAt}
 
 -- ---- numbers
@@ -192,13 +192,13 @@ sum_of_none m n ts e = record {
 -- ---- what stands at a column
 
 pub takes_none : (x : ℕ) → TakesAt x [] (pos 0) []
-takes_none x = record { normal = record { rising = tt; nonzero = tt }; above = tt; is = inr (refl, refl) }
+takes_none x = record { normal = record { rising = tt; non_zero = tt }; above = tt; is = inr (refl, refl) }
 
 pub takes_first : (x : ℕ) (p : Monomial) (ps : List Monomial) → IsNormal (p ∷ ps) → p.column ≡ x → TakesAt x (p ∷ ps) p.factor ps
 takes_first x p ps h e = record {
-  normal = record { rising = h.rising.1; nonzero = h.nonzero.1 };
+  normal = record { rising = h.rising.1; non_zero = h.non_zero.1 };
   above = subst (λ y. AreAbove y ps) e h.rising.0;
-  is = inl (ap (λ y. monomial p.factor y ∷ ps) e, h.nonzero.0);
+  is = inl (ap (λ y. monomial p.factor y ∷ ps) e, h.non_zero.0);
 }
 
 pub takes_later : (x : ℕ) (p : Monomial) (ps : List Monomial) → IsNormal (p ∷ ps) → x ≤ p.column → (p.column ≡ x → ⊥) → TakesAt x (p ∷ ps) (pos 0) (p ∷ ps)

@@ -9,7 +9,7 @@ use Rattle.sv_log.specs.LogEntries.{Monomial}
 use Rattle.sv_log.specs.LogRows.{plain_monomial}
 use Rattle.sv_row.specs.RowParts.{monomials}
 use Rattle.sv_row.specs.SumSteps.{part, FitsBoth}
-use Rattle.sv_derived.specs.NormalRows.{IsSumOf}
+use Rattle.sv_derived.specs.RowSums.{IsSumOf}
 use Rattle.sv_derived.specs.Columns.{IsLeast, TakesAt}
 use Rattle.sv_derived.proofs.Merging.{refused, unlike, column_on, column_back, fewer, sum_of_none}
 

@@ -3,9 +3,9 @@ use Rattle.std.specs.Prelude.{ℕ, ◌≤◌, ℤ, pos, ◌≡◌, ◌⊎◌, Li
 use Rattle.std.specs.Borrow.{Bor}
 use Rattle.sv_log.specs.LogEntries.{Monomial}
 use Rattle.sv_log.specs.LogRows.{monomial}
-use Rattle.sv_row.specs.RowParts.{monomials, AreAbove}
+use Rattle.sv_row.specs.RowParts.{monomials, AreAbove, IsNormal}
 use Rattle.sv_row.specs.SumSteps.{part}
-use Rattle.sv_derived.specs.NormalRows.{IsNormal, IsRowSum}
+use Rattle.sv_derived.specs.RowSums.{IsRowSum}
 
 -- no column is below x
 abbrev pub IsFrom : ℕ → List Monomial → Type 0

@@ -1,2 +1,2 @@
-pub mod NormalRows
+pub mod RowSums
 pub mod Columns

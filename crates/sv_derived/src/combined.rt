@@ -1,7 +1,6 @@
 ghost use Rattle.std.specs.Prelude.{◌↔◌, ◌<ℤ◌, pos, IsTrue};
 ghost use Rattle.sv_log.specs.LogRows.{row, IsCombined};
-ghost use Rattle.sv_row.specs.RowParts.{monomials};
-ghost use Rattle.sv_derived.specs.NormalRows.{IsNormal};
+ghost use Rattle.sv_row.specs.RowParts.{monomials, IsNormal};
 ghost use Rattle.sv_derived.specs.Columns.{AddsUp};
 
 use crate::opposite::cancel;

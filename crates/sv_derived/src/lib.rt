@@ -2,7 +2,7 @@
 //!
 //! Promises: each call is true exactly where they are. No call takes memory.
 //! Stands on: `sv_num`, `sv_row`, and on `sv_log` for what a combination and a division are.
-//! Read first: `specs/NormalRows.antt`.
+//! Read first: `specs/RowSums.antt`.
 #![tactic(auto)]
 
 mod combined;

@@ -1,6 +1,6 @@
 ghost use Rattle.std.specs.Prelude.{◌≡◌, ◌↔◌, ◌<ℤ◌, pos, [], IsTrue, MatchOption};
-ghost use Rattle.sv_row.specs.RowParts.{monomials};
-ghost use Rattle.sv_derived.specs.NormalRows.{IsNormal, IsSumOf};
+ghost use Rattle.sv_row.specs.RowParts.{monomials, IsNormal};
+ghost use Rattle.sv_derived.specs.RowSums.{IsSumOf};
 ghost use Rattle.sv_derived.specs.Columns.{IsLeast, IsFrom, TakesAt, LeavesBehind};
 
 use sv_num::combine;

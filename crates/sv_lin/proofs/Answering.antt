@@ -12,7 +12,7 @@ use Rattle.sv_log.specs.LogEntries.{Row, Entry, columns}
 use Rattle.sv_log.specs.LogRows.{monomial}
 use Rattle.sv_log.specs.Logs.{Bound, IsAbsurd}
 use Rattle.sv_point.specs.NearestPoints.{IsRowOf}
-use Rattle.sv_lin.specs.Eliminations.{made, in_force, AreDivided, HaveNoAbsurd, AreEntriesOn, IsContradiction, Placed, IsColumnOf, AreFrom, IsNearestIn, IsPoint, IsExcess, IsExceedingValue, AreFormed, IsSpent, AreExceedingRows}
+use Rattle.sv_lin.specs.Eliminations.{made, in_force, AreDivided, HaveNoAbsurd, AreEntriesOn, IsContradiction, Placed, IsColumnOf, AreFrom, IsNearestIn, IsPoint, IsExcess, IsExceedingValue, AreNormal, IsSpent, AreExceedingRows}
 use Rattle.sv_lin.specs.Completeness.{AreComplete}
 use Rattle.sv_lin.specs.declared.place.Place.{Place}
 use Rattle.sv_term.specs.declared.node.TermId.{TermId}
@@ -43,14 +43,14 @@ use Rattle.sv_lin.proofs.Saturation.{complete_saturated}
 no_entries : (rows : List Row) → AreEntriesOn rows []
 no_entries rows = record { of_rows = tt; accepted = λ ts h. tt; no_absurd = λ r c. absurd (let l = c.1 in omega (arith, l)) }
 
-pub started : (rows : List Row) (limit : ℕ) → length rows < 2 ^ 31 → AreFormed rows → 1 ≤ limit → limit ≤ 200000 → HaveNoAbsurd rows → IsUnderWay rows limit []
-started rows limit few formed low high none = record {
+pub started : (rows : List Row) (limit : ℕ) → length rows < 2 ^ 31 → AreNormal rows → 1 ≤ limit → limit ≤ 200000 → HaveNoAbsurd rows → IsUnderWay rows limit []
+started rows limit few normal low high none = record {
   few = few;
   small = high;
   entries = no_entries rows;
   none = subst HaveNoAbsurd (sym (append-nil rows)) none;
   cheap = omega (arith, low);
-  formed = subst AreFormed (sym (append-nil rows)) formed;
+  normal = subst AreNormal (sym (append-nil rows)) normal;
   within = λ r c.
       let d = subst (λ z. Contains z r) (append-nil rows) c in
       each_weaker (λ x. Contains (columns r.parts) x) (IsColumnOf rows) (λ x e. (r, d, e)) r.parts (each_own r.parts);
@@ -117,7 +117,7 @@ module _ (rows : List Row) (limit : ℕ) (es : List Entry) (w : IsUnderWay rows 
     pub is_point : ArePlaced (in_force rows es) cs ps → IsPoint rows es (map placed ps)
     is_point p = record {
       entries = w.entries;
-      saturated = complete_saturated (in_force rows es) w.formed complete;
+      saturated = complete_saturated (in_force rows es) w.normal complete;
       divided = divided;
       lists = record {
         rising = from_rises 0 (map placed ps) (subst (RiseFrom 0) (sym p.columns) c.rising);
@@ -126,7 +126,7 @@ module _ (rows : List Row) (limit : ℕ) (es : List Entry) (w : IsUnderWay rows 
       nearest = nearest_anywhere p;
       meets = λ r i.
           let j = Contains-append_left rows (made es) r i in
-          met_if_near (in_force rows es) (point_of ps) r w.formed w.none j (λ y k t. (nearest_anywhere p y).1);
+          met_if_near (in_force rows es) (point_of ps) r w.normal w.none j (λ y k t. (nearest_anywhere p y).1);
     }
 
     module _ (i : ℕ) (s : StopsAt (in_force rows es) cs i ps) where

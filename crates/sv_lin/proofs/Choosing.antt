@@ -12,7 +12,7 @@ use Rattle.sv_log.specs.LogRows.{monomial}
 use Rattle.sv_fraction.specs.Fractions.{Ratio, IsReduced}
 use Rattle.sv_point.specs.NearestPoints.{IsRowOf, IsAtMost, IsNearestAt}
 use Rattle.sv_point.specs.PointLaws.{ArePositive, IsBoundOf}
-use Rattle.sv_lin.specs.Eliminations.{Placed, value_in, AreFormed, HaveNoAbsurd}
+use Rattle.sv_lin.specs.Eliminations.{Placed, value_in, AreNormal, HaveNoAbsurd}
 use Rattle.sv_lin.specs.Completeness.{AreComplete}
 use Rattle.sv_lin.specs.declared.place.Place.{Place}
 use Rattle.sv_lin.specs.declared.point.Limit.{Limit}
@@ -144,7 +144,7 @@ nothing_placed rows cs = record {
     none [] = refl
     none (c ∷ cs) = refl
 
-module _ (rows : List Row) (formed : AreFormed rows) (none : HaveNoAbsurd rows) (complete : AreComplete rows) (cs : List ℕ) (rising : RiseFrom 0 cs) (within : AreOfColumns rows cs)
+module _ (rows : List Row) (normal : AreNormal rows) (none : HaveNoAbsurd rows) (complete : AreComplete rows) (cs : List ℕ) (rising : RiseFrom 0 cs) (within : AreOfColumns rows cs)
     (i x : ℕ) (inside : i < length cs) (is : x ≡ get_or cs i x) (ps : List Place) (p : ArePlaced rows (take i cs) ps) where
   split : cs ≡ take i cs ++ x ∷ drop (i + 1) cs
   split = split_at cs i x inside is
@@ -179,7 +179,7 @@ module _ (rows : List Row) (formed : AreFormed rows) (none : HaveNoAbsurd rows) 
     own = ap (λ qs. value_in qs x) more ∙ placed_own (map placed ps) (record { column = x; value = f }) x refl (λ c. let l = below_x x (subst (λ z. Contains z x) p.columns c) in omega (arith, l))
 
     f_reduced : IsReduced f
-    f_reduced = chosen_reduced rows (point_of ps) x formed none complete positive near a.uppers a.lowers a.sides a.upper a.lower a.tight_upper a.tight_lower a.within f a.chooses
+    f_reduced = chosen_reduced rows (point_of ps) x normal none complete positive near a.uppers a.lowers a.sides a.upper a.lower a.tight_upper a.tight_lower a.within f a.chooses
 
     agree : (y : ℕ) → y < x → point_of ps y ≡ point_of new y
     agree y l = other y (λ e. absurd (omega (arith, l, e)))
@@ -188,7 +188,7 @@ module _ (rows : List Row) (formed : AreFormed rows) (none : HaveNoAbsurd rows) 
     reduced_new y = elim (equal_or y x) [ inl e ↦ subst IsReduced (sym (ap (point_of new) e ∙ own)) f_reduced | inr n ↦ subst IsReduced (other y n) (p.reduced y) ]
 
     nearest_x : IsNearestAt rows (point_of new) x
-    nearest_x = nearest_here rows (point_of ps) x formed none complete positive near a.uppers a.lowers a.sides a.upper a.lower a.tight_upper a.tight_lower a.within f a.chooses (point_of new) agree own (λ y. (reduced_new y).positive)
+    nearest_x = nearest_here rows (point_of ps) x normal none complete positive near a.uppers a.lowers a.sides a.upper a.lower a.tight_upper a.tight_lower a.within f a.chooses (point_of new) agree own (λ y. (reduced_new y).positive)
 
     pub one_more_place : ArePlaced rows (take (i + 1) cs) new
     one_more_place = record {

@@ -10,9 +10,9 @@ use Rattle.sv_term.specs.Terms.{Term}
 use Rattle.sv_log.specs.LogEntries.{Monomial, Row, Entry, AddTerm, AddFact, Linear, Combine, Divide, SplitOn, Cut, CloseAt, Clash, columns, cost_of, cost_of_log, terms_named}
 use Rattle.sv_log.specs.Logs.{Item, Bound, State, IsAbsurd, IsAllowed, IsAccepted, after, after_all, with_item}
 use Rattle.sv_point.specs.NearestPoints.{AreBelow}
-use Rattle.sv_lin.specs.Eliminations.{holding, HaveColumns, AreOfRows, made, in_force, HaveNoAbsurd, but_last, AreEntriesOn, IsContradiction, IsSpent, IsFormed, IsColumnOf}
+use Rattle.sv_lin.specs.Eliminations.{holding, HaveColumns, AreOfRows, made, in_force, HaveNoAbsurd, but_last, AreEntriesOn, IsContradiction, IsSpent, IsNormalRow, IsColumnOf}
 use Rattle.sv_lin.specs.UnderWay.{EachColumn, IsUnderWay, IsStep}
-use Rattle.sv_lin.proofs.NewRows.{each_combined, each_divided, each_weaker, all_columns, combined_formed, divided_formed}
+use Rattle.sv_lin.proofs.NewRows.{each_combined, each_divided, each_weaker, all_columns, combined_normal, divided_normal}
 
 -- ---- lists
 
@@ -180,22 +180,22 @@ column_below n rows x h c = go c.0.parts (h c.0 c.1) c.2.0 c.2.1 c.2.2
     go (p ∷ ps) b (suc k) l e = go ps b.1 k (omega (arith, l)) e
 
 module _ (rows : List Row) (limit : ℕ) (es : List Entry) (w : IsUnderWay rows limit es) (e : Entry) (t : Row) (a : Adds e t) (s : IsStep (in_force rows es) e) where
-  new_row : IsFormed t × EachColumn (IsColumnOf rows) t.parts
+  new_row : IsNormalRow t × EachColumn (IsColumnOf rows) t.parts
   new_row = go e a s
     where
       same : (u : Row) → made (Combine (pos 0) 0 (pos 0) 0 u ∷ []) ≡ t ∷ [] → u ≡ t
       same u d = cc d
 
-      go : (e : Entry) → Adds e t → IsStep (in_force rows es) e → IsFormed t × EachColumn (IsColumnOf rows) t.parts
+      go : (e : Entry) → Adds e t → IsStep (in_force rows es) e → IsNormalRow t × EachColumn (IsColumnOf rows) t.parts
       go (Combine m p n q u) a h =
           let r = contains_get (in_force rows es) p h.1 h.3 in
           let s = contains_get (in_force rows es) q h.2 h.4 in
-          subst (λ (v : Row). IsFormed v × EachColumn (IsColumnOf rows) v.parts) (same u a.made)
-          (combined_formed m n h.1 h.2 u h.5 (w.formed h.2 s), each_combined (IsColumnOf rows) m n h.1 h.2 u h.5 (w.within h.1 r) (w.within h.2 s))
+          subst (λ (v : Row). IsNormalRow v × EachColumn (IsColumnOf rows) v.parts) (same u a.made)
+          (combined_normal m n h.1 h.2 u h.5 (w.normal h.2 s), each_combined (IsColumnOf rows) m n h.1 h.2 u h.5 (w.within h.1 r) (w.within h.2 s))
       go (Divide d p u) a h =
           let r = contains_get (in_force rows es) p h.1 h.2 in
-          subst (λ (v : Row). IsFormed v × EachColumn (IsColumnOf rows) v.parts) (same u a.made)
-          (divided_formed d h.1 u h.3 (w.formed h.1 r), each_divided (IsColumnOf rows) d h.1 u h.3 (w.within h.1 r))
+          subst (λ (v : Row). IsNormalRow v × EachColumn (IsColumnOf rows) v.parts) (same u a.made)
+          (divided_normal d h.1 u h.3 (w.normal h.1 r), each_divided (IsColumnOf rows) d h.1 u h.3 (w.within h.1 r))
       go (AddTerm node) a h = absurd h
       go (AddFact rule sign n from) a h = absurd h
       go (Linear p forward r) a h = absurd h
@@ -245,6 +245,6 @@ module _ (rows : List Row) (limit : ℕ) (es : List Entry) (w : IsUnderWay rows 
     entries = entries;
     none = each_new (λ r. IsAbsurd (Bound r) → ⊥) w.none b;
     cheap = let c = cost_push es e in omega (arith, h, c);
-    formed = each_new IsFormed w.formed new_row.0;
+    normal = each_new IsNormalRow w.normal new_row.0;
     within = each_new (λ r. EachColumn (IsColumnOf rows) r.parts) w.within new_row.1;
   }

@@ -12,7 +12,8 @@ use Rattle.sv_log.specs.LogEntries.{Monomial, Row, Entry}
 use Rattle.sv_log.specs.LogRows.{monomial, greatest, with_parts, times_parts, IsCombined}
 use Rattle.sv_point.specs.NearestPoints.{AreBelow, IsRowOf}
 use Rattle.sv_point.proofs.Below.{combined_below, times_last, times_below}
-use Rattle.sv_lin.specs.Eliminations.{in_force, AreFormed, IsFormed, AreNonZero, IsColumnOf}
+use Rattle.sv_row.specs.RowParts.{AreNonZero}
+use Rattle.sv_lin.specs.Eliminations.{in_force, AreNormal, IsNormalRow, IsColumnOf}
 use Rattle.sv_lin.specs.Completeness.{HaveSum, AreCompleteAt, AreComplete}
 use Rattle.sv_lin.specs.declared.made.Made.{Made}
 use Rattle.sv_lin.specs.declared.made.Outcome.{Outcome}
@@ -372,7 +373,7 @@ before_or_last zero (suc i) h = absurd (omega (arith, h))
 before_or_last (suc n) zero h = inl (omega arith)
 before_or_last (suc n) (suc i) h = elim (before_or_last n i (omega (arith, h))) [ inl a ↦ inl (omega (arith, a)) | inr b ↦ inr (ap suc b) ]
 
-pub not_zero_at : (x : ℕ) (k : ℤ) (r : Row) → IsRowOf x k r → IsFormed r → k ≡ pos 0 → ⊥
+pub not_zero_at : (x : ℕ) (k : ℤ) (r : Row) → IsRowOf x k r → IsNormalRow r → k ≡ pos 0 → ⊥
 not_zero_at x k r f h e = last f.lows (subst AreNonZero f.is h.non_zero)
   where
     last : (lows : List Monomial) → AreNonZero (lows ++ monomial k x ∷ []) → ⊥
@@ -385,7 +386,7 @@ same_factor x k l r s e f g =
     let b = greatest_is x l s g in
     ap (λ (p : Monomial). p.factor) (same_monomial (monomial k x) (monomial l x) (greatest r.parts) a (ap (λ (u : Row). greatest u.parts) e ∙ b))
 
-module _ (rows : List Row) (formed : AreFormed rows) (x n : ℕ) (r : Row) (at : slice_get rows n ≡ Some r) where
+module _ (rows : List Row) (normal : AreNormal rows) (x n : ℕ) (r : Row) (at : slice_get rows n ≡ Some r) where
   pub one_more_side : (us ls us' ls' : List ℕ) (factor : Option ℤ) → MatchOption factor ((k : ℤ) → IsRowOf x k r → ⊥) (λ k. IsRowOf x k r)
       → AddsSide n factor us ls us' ls' → AreSides rows x n us ls → AreSides rows x (n + 1) us' ls'
   one_more_side us ls us' ls' None m a s = subst (λ z. AreSides rows x (n + 1) z ls') (sym a.0) (subst (λ z. AreSides rows x (n + 1) us z) (sym a.1) record {
@@ -422,7 +423,7 @@ module _ (rows : List Row) (formed : AreFormed rows) (x n : ℕ) (r : Row) (at :
       opposed j k e h i = absurd (omega (arith, ints, e))
   one_more_side us ls us' ls' (Some k) m (inr a) s = subst (λ z. AreSides rows x (n + 1) z ls') (sym a.1) (subst (λ z. AreSides rows x (n + 1) us z) (sym a.2) record {
     uppers_are = s.uppers_are;
-    lowers_are = λ p c. elim (Contains-push_cases ls n p c) [ inl i ↦ s.lowers_are p i | inr e ↦ subst (IsLower rows x) e (k, r, at, m, below k a.0 (not_zero_at x k r m (formed r (contains_get rows n r at)))) ];
+    lowers_are = λ p c. elim (Contains-push_cases ls n p c) [ inl i ↦ s.lowers_are p i | inr e ↦ subst (IsLower rows x) e (k, r, at, m, below k a.0 (not_zero_at x k r m (normal r (contains_get rows n r at)))) ];
     each_upper = λ p l u. elim (before_or_last n p l) [
       | inl h ↦ s.each_upper p h u
       | inr h ↦

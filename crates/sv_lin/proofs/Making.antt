@@ -14,7 +14,7 @@ use Rattle.sv_point.specs.NearestPoints.{IsRowOf}
 use Rattle.sv_cert.specs.declared.log.Row.{Row as CodeRow}
 use Rattle.sv_cert.specs.PlainLogs.{plain_row}
 use Rattle.sv_lin.specs.CancellingRows.{row_by, CanCancel}
-use Rattle.sv_lin.specs.Eliminations.{in_force, AreFormed, AreDivided, AreExceedingRows, ExceedsCombination}
+use Rattle.sv_lin.specs.Eliminations.{in_force, AreNormal, AreDivided, AreExceedingRows, ExceedsCombination}
 use Rattle.sv_lin.specs.Quotients.{IsIndivisible, HasNoQuotient}
 use Rattle.sv_lin.specs.Holding.{DividesRow, CombinesPair, Crosses, CompletesColumn}
 use Rattle.sv_lin.specs.declared.made.Made.{Made}
@@ -56,7 +56,7 @@ opposite (pos (suc k)) (pos l) h i = absurd (omega (arith, ints))
 opposite (pos (suc k)) (negsuc l) h i = omega (arith, ints)
 opposite (negsuc k) l h i = absurd (omega (arith, ints))
 
-can_cancel : (rows : List Row) (p q : ℕ) (r s : Row) → AreFormed rows → ((x : ℕ) × ArePairs rows x p (q ∷ [])) → slice_get rows p ≡ Some r → slice_get rows q ≡ Some s → CanCancel r s
+can_cancel : (rows : List Row) (p q : ℕ) (r s : Row) → AreNormal rows → ((x : ℕ) × ArePairs rows x p (q ∷ [])) → slice_get rows p ≡ Some r → slice_get rows q ≡ Some s → CanCancel r s
 can_cancel rows p q r s f u g h =
     let w = u.1.1 q (0, omega arith, refl) in
     let a = same_some u.1.0.1 r (slice_get rows p) u.1.0.2 g in
@@ -75,7 +75,7 @@ pub row_is : (r : CodeRow) (j : ℤ) (xs : List (ℤ × ℕ)) → j ≡ r.consta
 row_is r j xs e f = ap₂ row_by e f
 
 pub can_cancel_by : (rows : List Row) (p q : ℕ) (r s : CodeRow) (j l : ℤ) (xs ys : List (ℤ × ℕ)) → j ≡ r.constant → xs ≡ r.parts → l ≡ s.constant → ys ≡ s.parts
-    → AreFormed rows → ((x : ℕ) × ArePairs rows x p (q ∷ [])) → slice_get rows p ≡ Some (plain_row r) → slice_get rows q ≡ Some (plain_row s) → CanCancel (row_by j xs) (row_by l ys)
+    → AreNormal rows → ((x : ℕ) × ArePairs rows x p (q ∷ [])) → slice_get rows p ≡ Some (plain_row r) → slice_get rows q ≡ Some (plain_row s) → CanCancel (row_by j xs) (row_by l ys)
 can_cancel_by rows p q r s j l xs ys ej ex el ey f u g h =
     subst (λ z. CanCancel z (row_by l ys)) (sym (row_is r j xs ej ex)) (subst (CanCancel (plain_row r)) (sym (row_is s l ys el ey)) (can_cancel rows p q (plain_row r) (plain_row s) f u g h))
 

@@ -17,7 +17,7 @@ use Rattle.sv_point.specs.PointLaws.{ArePositive, IsBoundOf, IsChosen}
 use Rattle.sv_point.proofs.Worths.{amount-append, row_worth, scaled, by_size}
 use Rattle.sv_point.proofs.Crossing.{crossing}
 use Rattle.sv_point.proofs.Bounds.{chosen}
-use Rattle.sv_lin.specs.Eliminations.{Placed, value_in, AreFormed, HaveNoAbsurd}
+use Rattle.sv_lin.specs.Eliminations.{Placed, value_in, AreNormal, HaveNoAbsurd}
 use Rattle.sv_lin.specs.Completeness.{AreComplete}
 use Rattle.sv_lin.specs.UnderWay.{AreSides}
 use Rattle.sv_lin.specs.Placing.{HasBound, IsTightest, IsNotAbove, IsNotBelow, Chooses}
@@ -92,7 +92,7 @@ flat (pos (suc k)) h = absurd (h (omega (arith, ints)))
 flat (negsuc k) h = omega (arith, ints)
 
 -- a row in force is met where its greatest column has the nearest fraction
-pub met_if_near : (rows : List Row) (at : ℕ → Ratio) (t : Row) → AreFormed rows → HaveNoAbsurd rows → Contains rows t → ((y : ℕ) (k : ℤ) → IsRowOf y k t → IsNearestAt rows at y) → IsMet at t
+pub met_if_near : (rows : List Row) (at : ℕ → Ratio) (t : Row) → AreNormal rows → HaveNoAbsurd rows → Contains rows t → ((y : ℕ) (k : ℤ) → IsRowOf y k t → IsNearestAt rows at y) → IsMet at t
 met_if_near rows at t f n c near = go (greatest t.parts) refl
   where
     go : (o : Option Monomial) → greatest t.parts ≡ o → IsMet at t
@@ -104,7 +104,7 @@ met_if_near rows at t f n c near = go (greatest t.parts) refl
         let r : IsRowOf p.column p.factor t = record { lows = g.0; is = g.1; below = g.2 } in
         met_at_own at p.column p.factor t r ((near p.column p.factor r).meets p.factor t c r)
 
-pub met_below : (rows : List Row) (at : ℕ → Ratio) (x : ℕ) (t : Row) → AreFormed rows → HaveNoAbsurd rows → Contains rows t → AreBelow x t.parts
+pub met_below : (rows : List Row) (at : ℕ → Ratio) (x : ℕ) (t : Row) → AreNormal rows → HaveNoAbsurd rows → Contains rows t → AreBelow x t.parts
     → ((y : ℕ) (k : ℤ) → y < x → IsRowOf y k t → IsNearestAt rows at y) → IsMet at t
 met_below rows at x t f n c b near = met_if_near rows at t f n c (λ y k r. near y k (last_below x r.lows (monomial k y) (subst (AreBelow x) r.is b)) r)
 
@@ -120,7 +120,7 @@ negative_is : (l : ℤ) → l <ℤ pos 0 → (n : ℕ) × (0 < n) × (l ≡ neg_
 negative_is (pos n) h = absurd (omega (arith, ints))
 negative_is (negsuc n) h = (suc n, omega arith, refl)
 
-pub crossed_at : (rows : List Row) (at : ℕ → Ratio) (x : ℕ) → AreFormed rows → HaveNoAbsurd rows → AreComplete rows → ArePositive at
+pub crossed_at : (rows : List Row) (at : ℕ → Ratio) (x : ℕ) → AreNormal rows → HaveNoAbsurd rows → AreComplete rows → ArePositive at
     → ((y : ℕ) (k : ℤ) (t : Row) → y < x → Contains rows t → IsRowOf y k t → IsNearestAt rows at y)
     → (k l : ℤ) (r s : Row) (g h : Ratio) → Contains rows r → Contains rows s → pos 0 <ℤ k → l <ℤ pos 0 → IsBoundOf at x k r g → IsBoundOf at x l s h → IsAtMost h g
 crossed_at rows at x f n complete p near k l r s g h cr cs hk hl bg bh =
@@ -184,7 +184,7 @@ at_most_through f g h p q r i j =
 at_same : (f g : Ratio) → l.At f ≡ l.At g → f ≡ g
 at_same f g e = cc e
 
-module _ (rows : List Row) (at : ℕ → Ratio) (x : ℕ) (formed : AreFormed rows) (none : HaveNoAbsurd rows) (complete : AreComplete rows) (positive : ArePositive at)
+module _ (rows : List Row) (at : ℕ → Ratio) (x : ℕ) (normal : AreNormal rows) (none : HaveNoAbsurd rows) (complete : AreComplete rows) (positive : ArePositive at)
     (near : (y : ℕ) (k : ℤ) (t : Row) → y < x → Contains rows t → IsRowOf y k t → IsNearestAt rows at y)
     (us ls : List ℕ) (sides : AreSides rows x (length rows) us ls) (upper lower : Limit)
     (tight_upper : IsTightest rows at x s.Upper us upper) (tight_lower : IsTightest rows at x s.Lower ls lower)
@@ -223,7 +223,7 @@ module _ (rows : List Row) (at : ℕ → Ratio) (x : ℕ) (formed : AreFormed ro
   keeps_upper k r g u c h b e i m (inl ch) j =
       let low = (subst (IsTightest rows at x s.Lower ls) ch.0 j).0 in
       let w = as_lower low.0 f low.1 low.2 in
-      crossed_at rows at x formed none complete positive near k w.0 r w.1 g f c w.2 h w.4 b w.3
+      crossed_at rows at x normal none complete positive near k w.0 r w.1 g f c w.2 h w.4 b w.3
   keeps_upper k r g u c h b e i m (inr (inl ch)) j = subst (λ z. IsAtMost z g) (at_same u f (sym e ∙ ch.0)) m
   keeps_upper k r g u c h b e i m (inr (inr ch)) j =
       let top = as_upper i.0.0 u i.0.1 i.0.2 in
@@ -236,7 +236,7 @@ module _ (rows : List Row) (at : ℕ → Ratio) (x : ℕ) (formed : AreFormed ro
   keeps_lower k r g u c h b e i m (inr (inl ch)) j =
       let top = (subst (IsTightest rows at x s.Upper us) ch.0 j).0 in
       let w = as_upper top.0 f top.1 top.2 in
-      crossed_at rows at x formed none complete positive near w.0 k w.1 r f g w.2 c w.4 h w.3 b
+      crossed_at rows at x normal none complete positive near w.0 k w.1 r f g w.2 c w.4 h w.3 b
   keeps_lower k r g u c h b e i m (inr (inr ch)) j =
       let low = as_lower i.0.0 u i.0.1 i.0.2 in
       subst (IsAtMost g) (sym ch.0)
@@ -292,7 +292,7 @@ module _ (rows : List Row) (at : ℕ → Ratio) (x : ℕ) (formed : AreFormed ro
 
     is_chosen : IsChosen rows bt x
     is_chosen = record {
-      kept = λ k r c t. kept k r c t (sign_of k (not_zero_at x k r t (formed r c)));
+      kept = λ k r c t. kept k r c t (sign_of k (not_zero_at x k r t (normal r c)));
       from = subst (λ z. (z.top ≡ pos 0)
           ⊎ (((pos 0 <ℤ z.top) × (k : ℤ) × (r : Row) × Contains rows r × IsBoundOf bt x k r z × (k <ℤ pos 0))
           ⊎ ((z.top <ℤ pos 0) × (k : ℤ) × (r : Row) × Contains rows r × IsBoundOf bt x k r z × (pos 0 <ℤ k)))) (sym own) (from chooses);

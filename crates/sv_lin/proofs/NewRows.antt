@@ -8,9 +8,9 @@ use lib.Signed.{◌<ℤ◌}
 use Rattle.sv_log.specs.LogEntries.{Monomial, Row, columns}
 use Rattle.sv_log.specs.LogRows.{monomial, is_zero, with_part, with_parts, times_parts, IsCombined, IsDivided}
 use Rattle.sv_point.specs.NearestPoints.{AreBelow}
-use Rattle.sv_row.specs.RowParts.{AreAbove, AreRising}
+use Rattle.sv_row.specs.RowParts.{AreAbove, AreRising, AreNonZero}
 use Rattle.sv_row.proofs.Sums.{above_more, above_parts, above_times}
-use Rattle.sv_lin.specs.Eliminations.{AreNonZero, IsFormed}
+use Rattle.sv_lin.specs.Eliminations.{IsNormalRow}
 use Rattle.sv_lin.specs.UnderWay.{EachColumn}
 
 -- ---- columns
@@ -189,14 +189,14 @@ non_zero_quotient : (d : ℤ) (ps : List Monomial) → AreNonZero (times_parts d
 non_zero_quotient d [] n = tt
 non_zero_quotient d (p ∷ ps) n = (λ e. n.0 (product_zero d p.factor e), non_zero_quotient d ps n.1)
 
-pub combined_formed : (m n : ℤ) (r s t : Row) → IsCombined m r n s t → IsFormed s → IsFormed t
-combined_formed m n r s t c f = record {
+pub combined_normal : (m n : ℤ) (r s t : Row) → IsCombined m r n s t → IsNormalRow s → IsNormalRow t
+combined_normal m n r s t c f = record {
   rising = subst AreRising (sym (ap (λ (u : Row). u.parts) c.is)) (rising_sum (times_parts m r.parts) (times_parts n s.parts) (rising_times n s.parts f.rising));
   non_zero = subst AreNonZero (sym (ap (λ (u : Row). u.parts) c.is)) (non_zero_sum (times_parts m r.parts) (times_parts n s.parts) (non_zero_times n s.parts c.cancels.5.second f.non_zero));
 }
 
-pub divided_formed : (d : ℤ) (r t : Row) → IsDivided d r t → IsFormed r → IsFormed t
-divided_formed d r t h f = record {
+pub divided_normal : (d : ℤ) (r t : Row) → IsDivided d r t → IsNormalRow r → IsNormalRow t
+divided_normal d r t h f = record {
   rising = rising_quotient d t.parts (subst AreRising h.parts f.rising);
   non_zero = non_zero_quotient d t.parts (subst AreNonZero h.parts f.non_zero);
 }

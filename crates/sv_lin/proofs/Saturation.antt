@@ -9,10 +9,10 @@ use lib.Signed.{◌≤ℤ◌, ◌<ℤ◌}
 use Rattle.sv_log.specs.LogEntries.{Monomial, Row}
 use Rattle.sv_log.specs.LogRows.{monomial, row, is_zero, with_part, with_parts, times_parts, times, sum_of, greatest, Cancels, IsCombined}
 use Rattle.sv_point.specs.NearestPoints.{AreBelow, IsRowOf}
-use Rattle.sv_row.specs.RowParts.{AreAbove, AreRising}
+use Rattle.sv_row.specs.RowParts.{AreAbove, AreRising, AreNonZero}
 use Rattle.sv_row.specs.SumSteps.{part}
 use Rattle.sv_row.proofs.Sums.{above_more, front, past_all, onto, above_parts, above_times}
-use Rattle.sv_lin.specs.Eliminations.{AreNonZero, IsFormed, AreFormed}
+use Rattle.sv_lin.specs.Eliminations.{IsNormalRow, AreNormal}
 use Rattle.sv_lin.specs.Completeness.{AreComplete, CompleteAreSaturated}
 
 -- ---- a sum in either order
@@ -82,7 +82,7 @@ non_zero_times : (m : ℤ) (ps : List Monomial) → pos 0 <ℤ m → AreNonZero 
 non_zero_times m [] h n = tt
 non_zero_times m (p ∷ ps) h n = (product_not_zero m p.factor h n.0, non_zero_times m ps h n.1)
 
-sum_swapped : (m n : ℤ) (r s : Row) → pos 0 <ℤ m → pos 0 <ℤ n → IsFormed r → IsFormed s → sum_of (times m r) (times n s) ≡ sum_of (times n s) (times m r)
+sum_swapped : (m n : ℤ) (r s : Row) → pos 0 <ℤ m → pos 0 <ℤ n → IsNormalRow r → IsNormalRow s → sum_of (times m r) (times n s) ≡ sum_of (times n s) (times m r)
 sum_swapped m n r s h i f g =
     ap₂ row (swapped (m *ℤ r.constant) (n *ℤ s.constant))
     (commuted (length (times_parts m r.parts) + length (times_parts n s.parts)) (times_parts m r.parts) (times_parts n s.parts) (omega arith)
@@ -103,7 +103,7 @@ before_greatest (q ∷ s ∷ ps) p a e =
     let d = before_greatest (s ∷ ps) p a.1 e in
     (q ∷ d.0, ap (λ z. q ∷ z) d.1, (above_greatest q.column (s ∷ ps) p a.0 e, d.2))
 
-row_of : (r : Row) (p : Monomial) → IsFormed r → greatest r.parts ≡ Some p → IsRowOf p.column p.factor r
+row_of : (r : Row) (p : Monomial) → IsNormalRow r → greatest r.parts ≡ Some p → IsRowOf p.column p.factor r
 row_of r p f e = let d = before_greatest r.parts p f.rising e in record { lows = d.0; is = d.1; below = d.2 }
 
 -- ---- the least multipliers are one
@@ -138,7 +138,7 @@ one_sum m n i j r s t u c d =
     (subst (λ (x : Monomial). Cancels i j x.factor c.cancels.1.factor) p (subst (λ (y : Monomial). Cancels i j d.cancels.0.factor y.factor) q d.cancels.5)) in
     d.is ∙ (ap₂ (λ a b. sum_of (times a r) (times b s)) (sym e.0) (sym e.1) ∙ sym c.is)
 
-turned_combined : (m n : ℤ) (r s t : Row) → IsFormed r → IsFormed s → IsCombined m r n s t → IsCombined n s m r t
+turned_combined : (m n : ℤ) (r s t : Row) → IsNormalRow r → IsNormalRow s → IsCombined m r n s t → IsCombined n s m r t
 turned_combined m n r s t f g c = record {
   cancels = (c.cancels.1, c.cancels.0, c.cancels.3, c.cancels.2, sym c.cancels.4, turned m n c.cancels.0.factor c.cancels.1.factor c.cancels.5);
   multiples = (c.multiples.1, c.multiples.0);
@@ -155,18 +155,18 @@ signs (negsuc k) (pos zero) h = absurd (omega (arith, ints))
 signs (negsuc k) (pos (suc l)) h = inr (omega (arith, ints), omega (arith, ints))
 signs (negsuc k) (negsuc l) h = absurd (omega (arith, ints))
 
-module _ (rows : List Row) (formed : AreFormed rows) (complete : AreComplete rows) where
+module _ (rows : List Row) (normal : AreNormal rows) (complete : AreComplete rows) where
   positive_first : (m n : ℤ) (r s t : Row) → Contains rows r → Contains rows s → (c : IsCombined m r n s t) → pos 0 <ℤ c.cancels.0.factor → c.cancels.1.factor <ℤ pos 0 → Contains rows t
   positive_first m n r s t i j c h k =
-      let d = complete c.cancels.0.column c.cancels.0.factor c.cancels.1.factor r s i j (row_of r c.cancels.0 (formed r i) c.cancels.2)
-      (subst (λ x. IsRowOf x c.cancels.1.factor s) (sym c.cancels.4) (row_of s c.cancels.1 (formed s j) c.cancels.3)) h k in
+      let d = complete c.cancels.0.column c.cancels.0.factor c.cancels.1.factor r s i j (row_of r c.cancels.0 (normal r i) c.cancels.2)
+      (subst (λ x. IsRowOf x c.cancels.1.factor s) (sym c.cancels.4) (row_of s c.cancels.1 (normal s j) c.cancels.3)) h k in
       subst (Contains rows) (one_sum m n d.0 d.1 r s t d.2 c d.3) d.4
 
   pub saturated : (m n : ℤ) (r s t : Row) → Contains rows r → Contains rows s → IsCombined m r n s t → Contains rows t
   unfolding turned_combined
   saturated m n r s t i j c = elim (signs c.cancels.0.factor c.cancels.1.factor c.cancels.5.opposite) [
     | inl a ↦ positive_first m n r s t i j c a.0 a.1
-    | inr b ↦ positive_first n m s r t j i (turned_combined m n r s t (formed r i) (formed s j) c) b.0 b.1
+    | inr b ↦ positive_first n m s r t j i (turned_combined m n r s t (normal r i) (normal s j) c) b.0 b.1
   ]
 
 pub complete_saturated : CompleteAreSaturated

@@ -4,7 +4,7 @@ use Rattle.std.specs.List.{Contains}
 use Rattle.sv_log.specs.LogEntries.{Row}
 use Rattle.sv_log.specs.LogRows.{IsCombined}
 use Rattle.sv_point.specs.NearestPoints.{IsRowOf}
-use Rattle.sv_lin.specs.Eliminations.{AreFormed, AreSaturated}
+use Rattle.sv_lin.specs.Eliminations.{AreNormal, AreSaturated}
 
 -- what the two make by cancelling their greatest column is one of the rows
 abbrev pub HaveSum : List Row → Row → Row → Type 0
@@ -19,4 +19,4 @@ AreComplete rows = (x : ℕ) → AreCompleteAt rows x
 
 -- then nothing more can be combined, in either order
 abbrev pub CompleteAreSaturated : Type 0
-CompleteAreSaturated = (rows : List Row) → AreFormed rows → AreComplete rows → AreSaturated rows
+CompleteAreSaturated = (rows : List Row) → AreNormal rows → AreComplete rows → AreSaturated rows

@@ -7,22 +7,16 @@ use Rattle.sv_log.specs.LogEntries.{Monomial, Row, Entry, Combine, Divide, colum
 use Rattle.sv_log.specs.LogRows.{times, sum_of, FitsRow, Cancels, IsCombined, IsDivided}
 use Rattle.sv_log.specs.Logs.{State, Bound, IsAccepted, IsAbsurd}
 use Rattle.sv_fraction.specs.Fractions.{Ratio, ratio, IsReduced, FitsSum, IsSum, ExceedsBound}
-use Rattle.sv_row.specs.RowParts.{AreRising, IsGreatestDivisor}
+use Rattle.sv_row.specs.RowParts.{IsNormal, IsGreatestDivisor}
 use Rattle.sv_point.specs.NearestPoints.{AreBelow, IsRowOf, IsMet, IsNearestAt, IsWorth}
 
 -- ---- rows in normal form
 
-abbrev pub AreNonZero : List Monomial → Type 0
-AreNonZero [] = Unit {0}
-AreNonZero (p ∷ ps) = (p.factor ≡ pos 0 → ⊥) × AreNonZero ps
+abbrev pub IsNormalRow : Row → Type 0
+IsNormalRow r = IsNormal r.parts
 
--- columns rise, and no number is 0
-pub record IsFormed (r : Row) : Type 0 where
-  pub rising : AreRising r.parts
-  pub non_zero : AreNonZero r.parts
-
-abbrev pub AreFormed : List Row → Type 0
-AreFormed rows = (r : Row) → Contains rows r → IsFormed r
+abbrev pub AreNormal : List Row → Type 0
+AreNormal rows = (r : Row) → Contains rows r → IsNormalRow r
 
 -- ---- rows with their quotients
 

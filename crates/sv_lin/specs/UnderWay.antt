@@ -8,7 +8,7 @@ use Rattle.sv_point.specs.NearestPoints.{AreBelow, IsRowOf}
 use Rattle.sv_row.specs.RowParts.{IsGreatestDivisor}
 use Rattle.sv_cert.specs.declared.log.Row.{Row as CodeRow}
 use Rattle.sv_cert.specs.PlainLogs.{plain_row}
-use Rattle.sv_lin.specs.Eliminations.{in_force, HaveNoAbsurd, AreEntriesOn, AreFormed, AreDivided, IsColumnOf, IsContradiction, IsSpent, AreExceedingRows}
+use Rattle.sv_lin.specs.Eliminations.{in_force, HaveNoAbsurd, AreEntriesOn, AreNormal, AreDivided, IsColumnOf, IsContradiction, IsSpent, AreExceedingRows}
 use Rattle.sv_lin.specs.Completeness.{HaveSum, AreCompleteAt}
 use Rattle.sv_lin.specs.declared.made.Made.{Made}
 use Rattle.sv_lin.specs.declared.made.Origin.{Origin}
@@ -54,7 +54,7 @@ pub record IsUnderWay (rows : List Row) (limit : ℕ) (es : List Entry) : Type 0
   pub entries : AreEntriesOn rows es
   pub none : HaveNoAbsurd (in_force rows es)
   pub cheap : cost_of_log es < limit
-  pub formed : AreFormed (in_force rows es)
+  pub normal : AreNormal (in_force rows es)
   pub within : (r : Row) → Contains (in_force rows es) r → EachColumn (IsColumnOf rows) r.parts
 
 -- how a step ends: it reached its goal, or elimination ends
@@ -131,7 +131,7 @@ pub record AreColumns (rows : List Row) (cs : List ℕ) : Type 0 where
 
 -- each row can be read by its number, and is in normal form
 abbrev pub AreReadable : List CodeRow → List Made → Type 0
-AreReadable rows ms = (length rows + length ms < 2 ^ 64) × AreFormed (force rows ms)
+AreReadable rows ms = (length rows + length ms < 2 ^ 64) × AreNormal (force rows ms)
 
 -- the columns of each row, one row after another
 abbrev pub columns_among : List Row → List ℕ

@@ -1,6 +1,6 @@
 ghost use Rattle.std.specs.Prelude.{◌≡◌, ◌<◌, ◌≤◌, ◌^◌, ℕ, map, length, IfOk, MatchBool};
 ghost use Rattle.sv_cert.specs.PlainLogs.{plain_entry, plain_row};
-ghost use Rattle.sv_lin.specs.Eliminations.{AreFormed, HaveNoAbsurd};
+ghost use Rattle.sv_lin.specs.Eliminations.{AreNormal, HaveNoAbsurd};
 ghost use Rattle.sv_lin.specs.EliminationAnswers.{placed_by, IsAnswer};
 ghost use Rattle.sv_lin.specs.UnderWay.{entry_made, entries_of, given, HasAbsurd};
 ghost use Rattle.sv_lin.specs.Placing.{placed};
@@ -126,7 +126,7 @@ fn place(alloc: Global, rows: &[Row], work: Work, columns: &[usize]) -> Result<E
 /// Eliminates the columns of the rows, from the greatest down. The limit is what the entries may cost.
 pub fn eliminate(alloc: Global, rows: &[Row], limit: u64) -> Result<Eliminated, NoMemory>
     requires few { length rows.now < 2 ^ 31 }
-    requires formed { AreFormed (map plain_row rows.now) }
+    requires normal { AreNormal (map plain_row rows.now) }
     requires limit { (1 ≤ limit) × (limit ≤ 200000) }
     ensures { IfOk result (λ a. IsAnswer (map plain_row rows.now) limit a) }
 {

@@ -3,7 +3,7 @@ ghost use Rattle.sv_cert.specs.PlainLogs.{plain_row};
 ghost use Rattle.sv_row.specs.RowParts.{monomials};
 ghost use Rattle.sv_point.specs.NearestPoints.{IsRowOf, IsWorth};
 ghost use Rattle.sv_point.specs.PointLaws.{IsBoundOf};
-ghost use Rattle.sv_lin.specs.Eliminations.{IsFormed, ExceedsWorth};
+ghost use Rattle.sv_lin.specs.Eliminations.{IsNormalRow, ExceedsWorth};
 ghost use Rattle.sv_lin.specs.Placing.{point_of, AreReduced, ExceedsAt};
 
 use sv_cert::Row;
@@ -44,7 +44,7 @@ fn worked(start: Fraction, parts: &[(i128, usize)], places: &[Place]) -> Option<
 
 /// The bound that the row sets to its greatest column; `None` where a number on the way is no `i128`.
 pub fn bound_at(row: &Row, places: &[Place]) -> Option<Fraction>
-    requires formed { IsFormed (plain_row row.now) }
+    requires normal { IsNormalRow (plain_row row.now) }
     requires reduced { AreReduced (point_of places.now) }
     ensures { (x : ℕ) (k : ℤ) → IsRowOf x k (plain_row row.now) → MatchOption result
         (ExceedsAt (point_of places.now) x (plain_row row.now))

@@ -1,6 +1,6 @@
 ghost use Rattle.std.specs.Prelude.{◌≡◌, ◌<◌, ◌≤ℤ◌, ◌∷◌, [], pos, length, unsigned_abs, IfOk, MatchOption};
 ghost use Rattle.sv_row.specs.RowParts.{monomials, IsGreatestDivisor};
-ghost use Rattle.sv_lin.specs.Eliminations.{AreFormed};
+ghost use Rattle.sv_lin.specs.Eliminations.{AreNormal};
 ghost use Rattle.sv_lin.specs.UnderWay.{row_made, given, AreColumns, CanBeMade};
 ghost use Rattle.sv_lin.specs.Quotients.{IsIndivisible};
 ghost use Rattle.sv_lin.specs.Holding.{held, IsOn, IsOnDivided, Step, ArePairsOf, AreAllPairsOf, IsQuotientOf, IsCombination, EntersRow, DividesRow, DividesAll, CombinesPair, CombinesRow, Crosses, CompletesColumn, CompletesAll};
@@ -62,7 +62,7 @@ fn combination(
     upper: usize,
     lower: usize,
 ) -> Result<Option<Made>, NoMemory>
-    requires formed { AreFormed (held rows.now work.now) }
+    requires normal { AreNormal (held rows.now work.now) }
     requires pair { ArePairsOf rows.now work.now upper (lower ∷ []) }
     ensures { IfOk result (λ o. IsCombination (held rows.now work.now) upper lower o) }
 {

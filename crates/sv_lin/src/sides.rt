@@ -2,7 +2,7 @@ ghost use Rattle.std.specs.Prelude.{ℤ, ◌≡◌, ◌<◌, length, slice_get, 
 ghost use Rattle.std.specs.List.{Contains};
 ghost use Rattle.sv_cert.specs.PlainLogs.{plain_row};
 ghost use Rattle.sv_point.specs.NearestPoints.{IsRowOf};
-ghost use Rattle.sv_lin.specs.Eliminations.{IsFormed};
+ghost use Rattle.sv_lin.specs.Eliminations.{IsNormalRow};
 ghost use Rattle.sv_lin.specs.UnderWay.{force, AreReadable, AreSides, AddsSide};
 
 use crate::work::Work;
@@ -19,7 +19,7 @@ pub struct Sides {
 
 /// The row's number at the column, if that is its greatest.
 pub fn factor_at(row: &Row, column: usize) -> Option<i128>
-    requires { IsFormed (plain_row row.now) }
+    requires { IsNormalRow (plain_row row.now) }
     ensures { MatchOption result ((k : ℤ) → IsRowOf column k (plain_row row.now) → ⊥)
         (λ k. IsRowOf column k (plain_row row.now)) }
 {

@@ -1,1 +1,1 @@
-mod Forming
+mod NormalRowTests

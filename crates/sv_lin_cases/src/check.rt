@@ -1,24 +1,24 @@
 ghost use Rattle.std.specs.Prelude.{map, IsTrue, ℤ};
-ghost use Rattle.sv_row.specs.RowParts.{monomials, AreAbove, AreRising};
+ghost use Rattle.sv_row.specs.RowParts.{monomials, AreAbove, AreRising, AreNonZero};
 ghost use Rattle.sv_cert.specs.PlainLogs.{plain_row};
 ghost use Rattle.sv_lin.specs.CancellingRows.{row_by, CanCancel};
-ghost use Rattle.sv_lin.specs.Eliminations.{AreNonZero, AreFormed};
+ghost use Rattle.sv_lin.specs.Eliminations.{AreNormal};
 
 use sv_cert::Row;
 
 /// Whether in each row the columns rise and no number is 0.
-pub fn are_formed(rows: &[Row]) -> bool
-    ensures { IsTrue result → AreFormed (map plain_row rows.now) }
+pub fn are_normal(rows: &[Row]) -> bool
+    ensures { IsTrue result → AreNormal (map plain_row rows.now) }
 {
     for row in rows {
-        if !is_formed(row.parts.as_slice()) {
+        if !is_normal(row.parts.as_slice()) {
             return false;
         }
     }
     true
 }
 
-fn is_formed(parts: &[(i128, usize)]) -> bool
+fn is_normal(parts: &[(i128, usize)]) -> bool
     ensures { IsTrue result → AreRising (monomials parts.now) × AreNonZero (monomials parts.now) }
 {
     match parts.split_first() {
@@ -30,7 +30,7 @@ fn is_formed(parts: &[(i128, usize)]) -> bool
             if !is_before(column, rest) {
                 return false;
             }
-            is_formed(rest)
+            is_normal(rest)
         }
     }
 }
@@ -56,8 +56,8 @@ pub fn can_cancel(own: &[(i128, usize)], other: &[(i128, usize)]) -> bool
     if x != y || k <= 0 || 0 <= l {
         return false;
     }
-    if !is_formed(own) {
+    if !is_normal(own) {
         return false;
     }
-    is_formed(other)
+    is_normal(other)
 }

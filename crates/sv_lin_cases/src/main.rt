@@ -8,7 +8,7 @@ mod check;
 mod print;
 mod read;
 
-use crate::check::{are_formed, can_cancel};
+use crate::check::{are_normal, can_cancel};
 use crate::print::{print_answer, print_combination, print_count};
 use crate::read::row_of;
 use anyhow::Error;
@@ -45,7 +45,7 @@ fn eliminate_rows(
     counts: bool,
 ) -> Result<(), Error> {
     let limit = command.parse::<u64>().unwrap_or(1);
-    if limit < 1 || 200_000 < limit || rows.len() >= 1 << 31 || !are_formed(rows) {
+    if limit < 1 || 200_000 < limit || rows.len() >= 1 << 31 || !are_normal(rows) {
         return Ok(());
     }
     let answer = eliminate(rt.alloc(), rows, limit)?;

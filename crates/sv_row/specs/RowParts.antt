@@ -1,5 +1,5 @@
--- Believed: the parts of rows as the code has them, columns that rise, the sum of two multiples, and the greatest divisor of a row's numbers. Hold it against the sum of linear forms and the greatest common divisor of several numbers.
-use Rattle.std.specs.Prelude.{ℕ, ◌<◌, List, [], ◌∷◌, map, ℤ, unsigned_abs}
+-- Believed: the parts of rows as the code has them, rows in normal form, the sum of two multiples, and the greatest divisor of a row's numbers. Hold it against the README of `sv_log`, the sum of linear forms and the greatest common divisor of several numbers.
+use Rattle.std.specs.Prelude.{ℕ, ◌<◌, List, [], ◌∷◌, ◌≡◌, map, ℤ, pos, unsigned_abs}
 use Rattle.std.specs.List.{All}
 use Rattle.std.specs.Int.{◌∣◌}
 use Rattle.sv_num.specs.Range.{IsI128}
@@ -9,7 +9,7 @@ use Rattle.sv_log.specs.LogRows.{plain_monomial, with_parts, times_parts}
 abbrev pub monomials : List (ℤ × ℕ) → List Monomial
 monomials ps = map plain_monomial ps
 
--- ---- columns that rise
+-- ---- columns that rise, and numbers that are not 0
 
 -- the columns are above x
 abbrev pub AreAbove : ℕ → List Monomial → Type 0
@@ -19,6 +19,15 @@ AreAbove x (p ∷ ps) = (x < p.column) × AreAbove x ps
 abbrev pub AreRising : List Monomial → Type 0
 AreRising [] = Unit {0}
 AreRising (p ∷ ps) = AreAbove p.column ps × AreRising ps
+
+abbrev pub AreNonZero : List Monomial → Type 0
+AreNonZero [] = Unit {0}
+AreNonZero (p ∷ ps) = (p.factor ≡ pos 0 → ⊥) × AreNonZero ps
+
+-- the normal form of a row's parts
+pub record IsNormal (ps : List Monomial) : Type 0 where
+  pub rising : AreRising ps
+  pub non_zero : AreNonZero ps
 
 -- ---- the sum of two multiples
 

@@ -6,7 +6,7 @@ use Rattle.std.proofs.lemmas.Int.{to_z-of_z}
 use mir.Syntax.{w128}
 use mir.Val.{of_z}
 use Rattle.sv_row.specs.RowParts.{monomials}
-use Rattle.sv_derived.specs.NormalRows.{IsRowSum}
+use Rattle.sv_derived.specs.RowSums.{IsRowSum}
 use Rattle.sv_derived.proofs.Cancelling.{refuses, same_signed}
 use Rattle.sv_derived.proofs.Combining.{fits_read, other_constant, row_sum_is, sum_read_back}
 use Rattle.sv_derived.proofs.combined.is_row_sum.Goals as goal

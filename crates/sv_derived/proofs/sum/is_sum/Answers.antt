@@ -3,7 +3,7 @@ use Rattle.std.specs.Prelude.{FitsSigned}
 use Rattle.std.proofs.lemmas.Int.{to_z-of_z}
 use mir.Syntax.{w128}
 use Rattle.sv_row.specs.RowParts.{monomials}
-use Rattle.sv_derived.specs.NormalRows.{IsSumOf}
+use Rattle.sv_derived.specs.RowSums.{IsSumOf}
 use Rattle.sv_derived.proofs.Cancelling.{refuses}
 use Rattle.sv_derived.proofs.Walking.{read_claim, claim_read, unfit, differs, on, back, fewer_left, fewer_pairs, ended}
 use Rattle.sv_derived.proofs.sum.is_sum.Goals as goal

@@ -1,6 +1,6 @@
 use Rattle.std.proofs.Common.{◌+◌, length}
-use Rattle.sv_row.specs.RowParts.{monomials}
-use Rattle.sv_derived.specs.NormalRows.{IsNormal, IsSumOf}
+use Rattle.sv_row.specs.RowParts.{monomials, IsNormal}
+use Rattle.sv_derived.specs.RowSums.{IsSumOf}
 use Rattle.sv_derived.proofs.sum.is_sum.Given as goal
 
 -- the claim on all parts is the claim on those that are left

@@ -17,7 +17,7 @@ returns-then-has_absurd c =
 pub eliminate_columns-requires-clause-way : goal.eliminate_columns-requires-clause-way
 eliminate_columns-requires-clause-way c =
     subst (IsUnderWay (given c.args.rows.now) c.args.limit) (sym (ap entries_of c.new-work.ensures))
-    (started (given c.args.rows.now) c.args.limit (let a = c.requires.few in let l = length-map c.args.rows.now plain_row in omega (arith, a, l)) c.requires.formed c.requires.limit.0 c.requires.limit.1 c.if-has_absurd.ensures)
+    (started (given c.args.rows.now) c.args.limit (let a = c.requires.few in let l = length-map c.args.rows.now plain_row in omega (arith, a, l)) c.requires.normal c.requires.limit.0 c.requires.limit.1 c.if-has_absurd.ensures)
 
 pub eliminate_columns-requires-clause-columns : goal.eliminate_columns-requires-clause-columns
 eliminate_columns-requires-clause-columns c = subst (AreColumns (given c.args.rows.now)) (sym c.as_slice-all.ensures.value) c.in_ok-columns.ensures

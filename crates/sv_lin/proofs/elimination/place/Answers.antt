@@ -7,7 +7,7 @@ use Rattle.sv_lin.proofs.Answering.{of_columns, is_point, exceeds_value, is_exce
 use Rattle.sv_lin.proofs.elimination.place.Goals as goal
 
 pub place_columns-requires-clause-readable : goal.place_columns-requires-clause-readable
-place_columns-requires-clause-readable c = (let r = room c.args.rows.now c.requires.limit c.args.work.made.items c.requires.way in omega (arith, r), c.requires.way.formed)
+place_columns-requires-clause-readable c = (let r = room c.args.rows.now c.requires.limit c.args.work.made.items c.requires.way in omega (arith, r), c.requires.way.normal)
 
 pub place_columns-requires-clause-rising : goal.place_columns-requires-clause-rising
 place_columns-requires-clause-rising c = c.requires.columns.rising

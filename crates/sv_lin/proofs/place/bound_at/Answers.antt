@@ -25,7 +25,7 @@ pub bound-requires : goal.bound-requires
 bound-requires c =
     let f : FitsSigned w128 c.in-Some.field-0-0.now.0 = search rules in
     let e = to_z-of_z w128 c.in-Some.field-0-0.now.0 f in
-    not_zero_at c.in-Some.field-0-0.now.1 _ (plain_row c.args.row.now) (row_at_last c.args.row.now c.as_slice.result.now c.in-Some.lows.now c.in-Some.field-0-0.now _ c.in-Some.field-0-0.now.1 c.as_slice.ensures c.in-Some.ensures.cases.0 refl e c.requires.formed) c.requires.formed
+    not_zero_at c.in-Some.field-0-0.now.1 _ (plain_row c.args.row.now) (row_at_last c.args.row.now c.as_slice.result.now c.in-Some.lows.now c.in-Some.field-0-0.now _ c.in-Some.field-0-0.now.1 c.as_slice.ensures c.in-Some.ensures.cases.0 refl e c.requires.normal) c.requires.normal
 
 pub returns : goal.returns
 returns c x k t =

@@ -22,8 +22,8 @@ row-requires c =
     let a = c.requires.there.1 q (contains_at c.args.numbers.now c.loop-number.number-index q l (same_default c.args.numbers.now c.loop-number.number-index 0 q l)) in
     slice_get_within (force c.args.rows.now c.args.work.now.made.items) q a.1 a.2
 
-pub bound_at-requires-clause-formed : goal.bound_at-requires-clause-formed
-bound_at-requires-clause-formed c =
+pub bound_at-requires-clause-normal : goal.bound_at-requires-clause-normal
+bound_at-requires-clause-normal c =
     c.requires.placed.0.1 (plain_row c.row.result.now) (contains_get (force c.args.rows.now c.args.work.now.made.items) (get_or c.args.numbers.now c.loop-number.number-index 0) (plain_row c.row.result.now) c.row.ensures)
 
 pub returns-in-None : goal.returns-in-None

@@ -20,7 +20,7 @@ combine_rows-requires c =
     let g : FitsSigned w128 c.row-second.result.now.constant = search rules in
     can_cancel_by (force c.args.rows.now c.args.work.now.made.items) c.args.upper c.args.lower c.row-first.result.now c.row-second.result.now _ _ c.as_slice.result.now c.as_slice-2.result.now
     (to_z-of_z w128 c.row-first.result.now.constant f) c.as_slice.ensures (to_z-of_z w128 c.row-second.result.now.constant g) c.as_slice-2.ensures
-    c.requires.formed c.requires.pair c.row-first.ensures c.row-second.ensures
+    c.requires.normal c.requires.pair c.row-first.ensures c.row-second.ensures
 
 pub returns-in_default : goal.returns-in_default
 returns-in_default c =

@@ -64,5 +64,5 @@ returns-in_default-2 c =
 pub enter-requires-clause-way : goal.enter-requires-clause-way
 enter-requires-clause-way c = c.requires.way.0
 
-pub combination-requires-clause-formed : goal.combination-requires-clause-formed
-combination-requires-clause-formed c = c.requires.way.0.formed
+pub combination-requires-clause-normal : goal.combination-requires-clause-normal
+combination-requires-clause-normal c = c.requires.way.0.normal

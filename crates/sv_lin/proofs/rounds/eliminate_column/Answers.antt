@@ -5,7 +5,7 @@ use Rattle.sv_lin.proofs.Making.{column_ends}
 use Rattle.sv_lin.proofs.rounds.eliminate_column.Goals as goal
 
 pub sides_of-requires : goal.sides_of-requires
-sides_of-requires c = (let r = room c.args.rows.now c.args.limit c.args.work.now.made.items c.requires.0 in omega (arith, r), c.requires.0.formed)
+sides_of-requires c = (let r = room c.args.rows.now c.args.limit c.args.work.now.made.items c.requires.0 in omega (arith, r), c.requires.0.normal)
 
 pub combine_sides-requires-clause-pairs : goal.combine_sides-requires-clause-pairs
 combine_sides-requires-clause-pairs c = (

@@ -1,5 +1,5 @@
 use Rattle.std.proofs.lemmas.Bool.Decides.{Decides-ltb}
-use Rattle.sv_lin_cases.proofs.Forming.{nothing_above, next_above}
+use Rattle.sv_lin_cases.proofs.NormalRowTests.{nothing_above, next_above}
 use Rattle.sv_lin_cases.proofs.check.is_before.Goals as goal
 
 pub returns-in-None : goal.returns-in-None

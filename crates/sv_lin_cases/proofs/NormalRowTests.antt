@@ -7,13 +7,13 @@ use Rattle.std.proofs.lemmas.Int.{ints}
 use lib.IntN.{ℤ, pos, negsuc, ◌*ℤ◌}
 use lib.Signed.{◌<ℤ◌}
 use Rattle.sv_log.specs.LogEntries.{Row}
-use Rattle.sv_row.specs.RowParts.{monomials, AreAbove, AreRising}
+use Rattle.sv_row.specs.RowParts.{monomials, AreAbove, AreRising, AreNonZero}
 use Rattle.sv_row.proofs.Sums.{above_more}
 use Rattle.sv_cert.specs.declared.log.Row.{Row as CodeRow}
 use Rattle.sv_cert.specs.PlainLogs.{plain_row}
 use Rattle.sv_point.specs.NearestPoints.{IsRowOf}
 use Rattle.sv_lin.specs.CancellingRows.{row_by, CanCancel}
-use Rattle.sv_lin.specs.Eliminations.{AreNonZero, IsFormed}
+use Rattle.sv_lin.specs.Eliminations.{IsNormalRow}
 use Rattle.sv_lin.proofs.Lasts.{row_at_last}
 
 pub nothing_above : (x : ℕ) (ps : List (ℤ × ℕ)) → length ps ≡ 0 → AreAbove x (monomials ps)
@@ -25,13 +25,13 @@ next_above x p ps rest e l r =
     let h = subst (λ z. AreRising (monomials z)) e r in
     subst (λ z. AreAbove x (monomials z)) (sym e) (l, above_more x p.1 (monomials rest) l h.0)
 
-pub nothing_formed : (ps : List (ℤ × ℕ)) → length ps ≡ 0 → AreRising (monomials ps) × AreNonZero (monomials ps)
-nothing_formed [] e = (tt, tt)
-nothing_formed (p ∷ ps) e = absurd (omega (arith, e))
+pub nothing_is_normal : (ps : List (ℤ × ℕ)) → length ps ≡ 0 → AreRising (monomials ps) × AreNonZero (monomials ps)
+nothing_is_normal [] e = (tt, tt)
+nothing_is_normal (p ∷ ps) e = absurd (omega (arith, e))
 
-pub more_formed : (p : ℤ × ℕ) (ps rest : List (ℤ × ℕ)) → ps ≡ p ∷ rest → (p.0 ≡ pos 0 → ⊥) → (AreRising (monomials rest) → AreAbove p.1 (monomials rest)) → AreRising (monomials rest) × AreNonZero (monomials rest)
+pub more_is_normal : (p : ℤ × ℕ) (ps rest : List (ℤ × ℕ)) → ps ≡ p ∷ rest → (p.0 ≡ pos 0 → ⊥) → (AreRising (monomials rest) → AreAbove p.1 (monomials rest)) → AreRising (monomials rest) × AreNonZero (monomials rest)
     → AreRising (monomials ps) × AreNonZero (monomials ps)
-more_formed p ps rest e n a f = subst (λ z. AreRising (monomials z) × AreNonZero (monomials z)) (sym e) ((a f.0, f.0), (n, f.1))
+more_is_normal p ps rest e n a f = subst (λ z. AreRising (monomials z) × AreNonZero (monomials z)) (sym e) ((a f.0, f.0), (n, f.1))
 
 pub one_past : {X : Type 0} (P : X → Row) (xs : List X) (i : ℕ) (x : X) (r : Row) → i < length xs → x ≡ get_or xs i x → Contains (map P (drop i xs)) r → (P x ≡ r) ⊎ Contains (map P (drop (i + 1) xs)) r
 one_past P [] i x r l e c = absurd (omega (arith, l))
@@ -48,8 +48,8 @@ one_past P (y ∷ xs) (suc i) x r l e c = subst (λ k. (P x ≡ r) ⊎ Contains 
 pub none_left : {X : Type 0} (P : X → Row) (xs : List X) (i : ℕ) (r : Row) → length xs ≤ i → Contains (map P (drop i xs)) r → ⊥
 none_left P xs i r h c = let d = ap (λ z. length (map P z)) (drop_all i xs h) in let l = c.1 in omega (arith, d, l)
 
-pub formed_by : (r : CodeRow) (xs : List (ℤ × ℕ)) → xs ≡ r.parts → AreRising (monomials xs) × AreNonZero (monomials xs) → IsFormed (plain_row r)
-formed_by r xs e f = let g = subst (λ z. AreRising (monomials z) × AreNonZero (monomials z)) e f in record { rising = g.0; non_zero = g.1 }
+pub normal_by : (r : CodeRow) (xs : List (ℤ × ℕ)) → xs ≡ r.parts → AreRising (monomials xs) × AreNonZero (monomials xs) → IsNormalRow (plain_row r)
+normal_by r xs e f = let g = subst (λ z. AreRising (monomials z) × AreNonZero (monomials z)) e f in record { rising = g.0; non_zero = g.1 }
 
 -- ---- two rows that can be combined
 
@@ -58,7 +58,7 @@ abbrev with_constant : ℤ → List (ℤ × ℕ) → CodeRow
 with_constant j ps = record { constant = j; parts = ps }
 
 greatest_at : (j : ℤ) (ps rest : List (ℤ × ℕ)) (p : ℤ × ℕ) (x : ℕ) → ps ≡ rest ++ p ∷ [] → p.1 ≡ x → AreRising (monomials ps) × AreNonZero (monomials ps) → IsRowOf x p.0 (row_by j ps)
-greatest_at j ps rest p x e c f = row_at_last (with_constant j ps) ps rest p p.0 x refl e c refl (formed_by (with_constant j ps) ps refl f)
+greatest_at j ps rest p x e c f = row_at_last (with_constant j ps) ps rest p p.0 x refl e c refl (normal_by (with_constant j ps) ps refl f)
 
 opposite : (k l : ℤ) → pos 0 <ℤ k → l <ℤ pos 0 → (k *ℤ l) <ℤ pos 0
 opposite (pos zero) l h i = absurd (omega (arith, ints))

@@ -1,16 +1,8 @@
--- Believed: rows whose columns rise and whose numbers are not 0, and what the parts of a sum of multiples are. Hold it against the README of `sv_log`.
+-- Believed: what the parts of a sum of multiples of two rows are. Hold it against the README of `sv_log`.
 use Rattle.std.specs.Prelude.{ℤ, pos, ◌+ℤ◌, ◌*ℤ◌, ◌≡◌, List, [], ◌∷◌}
 use Rattle.sv_num.specs.Range.{IsI128}
 use Rattle.sv_log.specs.LogEntries.{Monomial}
-use Rattle.sv_row.specs.RowParts.{AreRising, FitsMultiples, sum_of_multiples}
-
-abbrev pub AreNonzero : List Monomial → Type 0
-AreNonzero [] = Unit {0}
-AreNonzero (p ∷ ps) = (p.factor ≡ pos 0 → ⊥) × AreNonzero ps
-
-pub record IsNormal (ps : List Monomial) : Type 0 where
-  pub rising : AreRising ps
-  pub nonzero : AreNonzero ps
+use Rattle.sv_row.specs.RowParts.{FitsMultiples, sum_of_multiples}
 
 -- the parts are those of m times the one and n times the other together, and every number is an `i128`
 pub record IsSumOf (m : ℤ) (ps : List Monomial) (n : ℤ) (qs ts : List Monomial) : Type 0 where
