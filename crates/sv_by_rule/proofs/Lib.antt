@@ -1,0 +1,4 @@
+pub mod RuleParts
+pub mod PatternsOfRules
+pub mod RulesOfPatterns
+pub mod RuleLaw
