@@ -1,0 +1,3 @@
+pub mod Capping
+pub mod Totals
+pub mod Enough
