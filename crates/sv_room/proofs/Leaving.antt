@@ -5,11 +5,12 @@ use Rattle.sv_term.specs.Terms.{Term, App, Terms, End, More}
 use Rattle.sv_term.specs.FactRules.{Says}
 use Rattle.sv_log.specs.LogEntries.{Entry, AddTerm, AddFact, Linear, Combine, Divide, SplitOn, Cut, CloseAt, Clash, Part, TermPart, SortPart, NumberPart, FlagPart, terms_among}
 use Rattle.sv_log.specs.Logs.{Item, Known, Bound, Split, State, nth_term, nth_terms, built, IsInFirstHalf, IsAllowed, open_around, with_item, shut, turned, after, after_all, IsAccepted, begun}
-use Rattle.sv_room.specs.Rooms.{room, none, both, total, IsWithin}
+use Rattle.sv_room.specs.Rooms.{room, none, both, total, capped_room, IsWithin}
 use Rattle.sv_room.specs.Needs.{need_of, need_of_part}
 use Rattle.sv_room.specs.HeldRooms.{arg_count, args_of, args_in, numbers_of, numbers_in, held}
-use Rattle.sv_room.specs.RoomLaws.{StatesAreWithin}
+use Rattle.sv_room.specs.RoomLaws.{StatesAreWithin, EntriesHaveRoom}
 use Rattle.sv_room.specs.declared.room.Room.{Room}
+use Rattle.sv_room.proofs.Enough.{prefixes_have_room}
 
 length_one : {A : Type 0} (xs : List A) (x : A) → length (xs ++ x ∷ []) ≡ length xs + 1
 length_one xs x = length-append xs (x ∷ [])
@@ -138,3 +139,19 @@ all_leave s (e ∷ es) a h =
 
 pub states_are_within : StatesAreWithin
 states_are_within goal es a = all_leave (begun goal) es a tt
+
+-- what was taken is within t beside r, and what was taken and more within a room
+within_beside : (r s t v w : Room) → IsWithin s (both r t) → IsWithin (both t v) w → IsWithin (both s v) (both r w)
+within_beside r s t v w h k = record {
+  terms = omega (arith, h.terms, k.terms);
+  args = omega (arith, h.args, k.args);
+  sorts = omega (arith, h.sorts, k.sorts);
+  items = omega (arith, h.items, k.items);
+  coefficients = omega (arith, h.coefficients, k.coefficients);
+  splits = omega (arith, h.splits, k.splits);
+}
+
+pub entries_have_room : EntriesHaveRoom
+entries_have_room goal before rest e a real =
+    within_beside (held (begun goal)) (held (after_all (begun goal) before)) (total need_of before) (need_of e) (capped_room (total need_of (before ++ e ∷ rest)))
+    (states_are_within goal before a) (prefixes_have_room before rest e real)

@@ -17,3 +17,9 @@ PrefixesHaveRoom = (before rest : List Entry) (e : Entry)
 abbrev pub StatesAreWithin : Type 0
 StatesAreWithin = (goal : Term) (es : List Entry) → IsAccepted (begun goal) es
     → IsWithin (held (after_all (begun goal) es)) (both (held (begun goal)) (total need_of es))
+
+-- so after each beginning of a log that is accepted, what the condition holds and the room of the log together have room for the next entry
+abbrev pub EntriesHaveRoom : Type 0
+EntriesHaveRoom = (goal : Term) (before rest : List Entry) (e : Entry) → IsAccepted (begun goal) before
+    → IsReal (capped_room (total need_of (before ++ e ∷ rest)))
+    → IsWithin (both (held (after_all (begun goal) before)) (need_of e)) (both (held (begun goal)) (capped_room (total need_of (before ++ e ∷ rest))))
