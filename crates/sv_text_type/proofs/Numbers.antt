@@ -9,7 +9,7 @@ use Rattle.sv_text_type.specs.declared.text_type.TypeId.{TypeId}
 use Rattle.sv_text_type.specs.declared.text_type.TextType.{TextType}
 use Rattle.sv_text_type.specs.declared.text_type.TextType.TheVariants as t
 use Rattle.sv_text_type.specs.contracts.text_type.TextTypePartialEq.TheImpl.{eq-value}
-use Rattle.sv_text_type.specs.TextTypeParts.{HasParts, IsOrdered, AreDistinct}
+use Rattle.sv_text_type.specs.TextTypeParts.{HasParts, IsOrdered, AreDistinct, same_type}
 
 both : (a b : Bool) → (a && b) ≡ true → (a ≡ true) × (b ≡ true)
 both true b e = (refl, e)
@@ -36,6 +36,35 @@ type_is (t.Fixed p m) (t.Fixed q n) e = let s = both (nat_eq p.0 q.0) (nat_eq m 
 type_is (t.Dynamic p) (t.Dynamic q) e = ap t.Dynamic (same_id p q e)
 type_is (t.Mapping p a) (t.Mapping q b) e = let s = both (nat_eq p.0 q.0) (nat_eq a.0 b.0) e in ap₂ t.Mapping (same_id p q s.0) (same_id a b s.1)
 type_is _ _ e = cc e
+
+pub type_self : (x : TextType) → (eq-value).it x x ≡ true
+type_self (t.Uint m) = (Decides-eqb m m).1 refl
+type_self (t.Int m) = (Decides-eqb m m).1 refl
+type_self t.Bool = refl
+type_self (t.Address true) = refl
+type_self (t.Address false) = refl
+type_self t.Text = refl
+type_self (t.Contract m) = (Decides-eqb m m).1 refl
+type_self (t.Enum m) = (Decides-eqb m m).1 refl
+type_self (t.Struct m) = (Decides-eqb m m).1 refl
+type_self (t.Fixed p m) = ap₂ (λ a b. a && b) ((Decides-eqb p.0 p.0).1 refl) ((Decides-eqb m m).1 refl)
+type_self (t.Dynamic p) = (Decides-eqb p.0 p.0).1 refl
+type_self (t.Mapping p a) = ap₂ (λ a b. a && b) ((Decides-eqb p.0 p.0).1 refl) ((Decides-eqb a.0 a.0).1 refl)
+
+pub type_test : (x y : TextType) → (eq-value).it x y ≡ same_type x y
+type_test (t.Uint m) (t.Uint n) = refl
+type_test (t.Int m) (t.Int n) = refl
+type_test t.Bool t.Bool = refl
+type_test (t.Address true) (t.Address q) = refl
+type_test (t.Address false) (t.Address q) = refl
+type_test t.Text t.Text = refl
+type_test (t.Contract m) (t.Contract n) = refl
+type_test (t.Enum m) (t.Enum n) = refl
+type_test (t.Struct m) (t.Struct n) = refl
+type_test (t.Fixed p m) (t.Fixed q n) = refl
+type_test (t.Dynamic p) (t.Dynamic q) = refl
+type_test (t.Mapping p a) (t.Mapping q b) = refl
+type_test _ _ = refl
 
 -- the type at the place that was found
 pub type_at : (x : TextType) (ts : List TextType) (i : ℕ) → i < length ts → position (λ k. (eq-value).it x k) ts ≡ Some i → slice_get ts i ≡ Some x

@@ -1,5 +1,6 @@
 -- Believed: what the types of a text are made of, and what their table promises. Hold it against Solidity's documentation, "Types".
-use Rattle.std.specs.Prelude.{◌≡◌, ◌<◌, Bool, true, false, List, [], ◌∷◌, Some, ℕ, All, slice_get}
+use Rattle.std.specs.Prelude.{◌≡◌, ◌==◌, ◌<◌, ◌&&◌, Bool, true, false, List, [], ◌∷◌, Some, ℕ, All, slice_get}
+use Rattle.std.specs.Bool.{beq}
 use Rattle.sv_text_type.specs.declared.text_type.TypeId.{TypeId}
 use Rattle.sv_text_type.specs.declared.text_type.TextType.{TextType}
 use Rattle.sv_text_type.specs.declared.text_type.TextType.TheVariants as t
@@ -12,6 +13,21 @@ is_value (t.Fixed element n) = false
 is_value (t.Dynamic element) = false
 is_value (t.Mapping key value) = false
 is_value _ = true
+
+-- the two are one type
+abbrev pub same_type : TextType → TextType → Bool
+same_type (t.Uint m) (t.Uint n) = m == n
+same_type (t.Int m) (t.Int n) = m == n
+same_type t.Bool t.Bool = true
+same_type (t.Address p) (t.Address q) = beq p q
+same_type t.Text t.Text = true
+same_type (t.Contract m) (t.Contract n) = m == n
+same_type (t.Enum m) (t.Enum n) = m == n
+same_type (t.Struct m) (t.Struct n) = m == n
+same_type (t.Fixed e m) (t.Fixed f n) = e.0 == f.0 && m == n
+same_type (t.Dynamic e) (t.Dynamic f) = e.0 == f.0
+same_type (t.Mapping k v) (t.Mapping l w) = k.0 == l.0 && v.0 == w.0
+same_type _ _ = false
 
 -- the types that stand in the type's name
 abbrev pub parts_of : TextType → List TypeId

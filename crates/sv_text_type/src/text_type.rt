@@ -1,5 +1,5 @@
-ghost use Rattle.std.specs.Prelude.{◌≡◌};
-ghost use Rattle.sv_text_type.specs.TextTypeParts.{is_value};
+ghost use Rattle.std.specs.Prelude.{◌≡◌, ◌↔◌, IsTrue};
+ghost use Rattle.sv_text_type.specs.TextTypeParts.{is_value, same_type};
 
 /// The number of a type in a table of the types of a text, from 0.
 #[derive(Clone, Copy, Debug, PartialEq, Eq, Hash, Drop)]
@@ -46,5 +46,13 @@ impl TextType {
             | TextType::Mapping(_, _) => false,
             _ => true,
         }
+    }
+
+    /// Whether the two are one type.
+    pub fn is_same(self, other: TextType) -> bool
+        ensures same { result ≡ same_type self other }
+        ensures one { IsTrue result ↔ (self ≡ other) }
+    {
+        self == other
     }
 }
