@@ -1,2 +1,2 @@
 pub mod Conversions
-pub mod Operators
+pub mod OperatorTypes

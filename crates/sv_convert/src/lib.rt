@@ -2,7 +2,7 @@
 //!
 //! Promises: each answer is exact, and no call takes memory.
 //! Stands on: `sv_text_type`, `sqlite_items`.
-//! Read first: `specs/Conversions.antt`, `specs/Operators.antt`.
+//! Read first: `specs/Conversions.antt`, `specs/OperatorTypes.antt`.
 #![tactic(auto)]
 
 mod convert;

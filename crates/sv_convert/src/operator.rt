@@ -1,5 +1,5 @@
 ghost use Rattle.std.specs.Prelude.{◌≡◌};
-ghost use Rattle.sv_convert.specs.Operators.{unary_takes, takes_type, takes_numbers, takes, types_suit, suit, is_literal, left_is_wrong, right_is_wrong, right_is_wider, is_test, result_type};
+ghost use Rattle.sv_convert.specs.OperatorTypes.{unary_takes, takes_type, takes_numbers, takes, types_suit, suit, is_literal, left_is_wrong, right_is_wrong, right_is_wider, is_test, result_type};
 
 use crate::convert::{Setting, converts, is_bool, is_enum, is_integer, is_signed, mixes};
 use crate::number::takes_number;
