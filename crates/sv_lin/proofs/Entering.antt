@@ -12,7 +12,8 @@ use Rattle.sv_log.specs.Logs.{Item, Bound, State, IsAbsurd, IsAllowed, IsAccepte
 use Rattle.sv_point.specs.NearestPoints.{AreBelow}
 use Rattle.sv_lin.specs.Eliminations.{holding, HaveColumns, AreOfRows, made, in_force, HaveNoAbsurd, but_last, AreEntriesOn, IsContradiction, IsSpent, IsNormalRow, IsColumnOf}
 use Rattle.sv_lin.specs.UnderWay.{EachColumn, IsUnderWay, IsStep}
-use Rattle.sv_lin.proofs.NewRows.{each_combined, each_divided, each_weaker, all_columns, combined_normal, divided_normal}
+use Rattle.sv_lin.proofs.NewRows.{each_combined, each_divided, each_weaker, all_columns}
+use Rattle.sv_normal.proofs.NormalParts.{combined_normal, divided_normal}
 
 -- ---- lists
 

@@ -7,7 +7,7 @@
 
 mod lines;
 
-pub use lines::{LineFault, linearise};
+pub use lines::{LineFault, linearise, order_of};
 
 #[cfg(test)]
 mod tests {

@@ -162,8 +162,8 @@ fn order_at(alloc: Global, orders: &[Items<u32>], c: u32) -> Result<Items<u32>, 
     }
 }
 
-/// The order of contract c, or None where there is none.
-fn order_of(
+/// The order of contract c with these bases, which stand as in the text, behind contracts that have these orders; None where there is none.
+pub fn order_of(
     alloc: Global,
     orders: &[Items<u32>],
     c: u32,

@@ -1,0 +1,3 @@
+pub mod TypePieces
+pub mod DeclaredParts
+pub mod Declarations

@@ -1,0 +1,3 @@
+pub mod TermForms
+pub mod Listings
+pub mod Questions

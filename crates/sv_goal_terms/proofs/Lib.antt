@@ -1,0 +1,4 @@
+pub mod MissingLaws
+pub mod WalkLaws
+pub mod Standing
+pub mod Reading

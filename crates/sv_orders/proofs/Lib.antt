@@ -1,0 +1,5 @@
+pub mod Tables
+pub mod Members
+pub mod Merging
+pub mod Reaching
+pub mod Agreeing

@@ -1,0 +1,4 @@
+pub mod Capping
+pub mod Totals
+pub mod Enough
+pub mod Leaving

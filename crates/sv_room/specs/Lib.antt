@@ -1,0 +1,4 @@
+pub mod Rooms
+pub mod Needs
+pub mod HeldRooms
+pub mod RoomLaws

@@ -1,0 +1,2 @@
+pub mod TermTrees
+pub mod TermRooms

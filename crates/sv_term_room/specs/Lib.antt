@@ -1,0 +1,3 @@
+pub mod TermRows
+pub mod NodeCodes
+pub mod TermKeeping
