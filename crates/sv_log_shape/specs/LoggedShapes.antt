@@ -13,10 +13,10 @@ use Rattle.sv_log_sort.specs.TakenSorts.{cells_of, IsTaken}
 use Rattle.sv_node_sort.specs.NeededSorts.{AreNamed}
 
 -- how many cells the sort among the parts takes
-abbrev pub cells_named : List Part → ℕ
-cells_named [] = 0
-cells_named (SortPart s ∷ ps) = cells_of s
-cells_named (p ∷ ps) = cells_named ps
+abbrev pub cells_in : List Part → ℕ
+cells_in [] = 0
+cells_in (SortPart s ∷ ps) = cells_of s
+cells_in (p ∷ ps) = cells_in ps
 
 -- n is the number of the sort among the parts, if there is one
 abbrev pub IsTakenAmong : List Cell → List Part → ℕ → Type 0

@@ -4,7 +4,7 @@ ghost use Rattle.std.specs.Prelude.{◌≡◌, ◌+◌, ◌≤◌, length, map, 
 ghost use Rattle.sv_log.specs.LogEntries.{terms_among, number_among, flag_among};
 ghost use Rattle.sv_cert.specs.PlainNodes.{plain_part};
 ghost use Rattle.sv_log_sort.specs.TakenSorts.{Grows};
-ghost use Rattle.sv_log_shape.specs.LoggedShapes.{cells_named, IsTakingAmong};
+ghost use Rattle.sv_log_shape.specs.LoggedShapes.{cells_in, IsTakingAmong};
 
 use sv_cert::Part;
 use sv_log_sort::add_log_sort;
@@ -48,8 +48,8 @@ pub(crate) fn flag(parts: &[Part]) -> bool
 
 /// The number of the sort among the parts, which is taken in; any number where there is none.
 pub(crate) fn sort(room: &mut TermRoom, parts: &[Part]) -> Option<usize>
-    requires { length room.old.cells + cells_named (map plain_part parts.now) ≤ room.old.sorts_room }
-    ensures grows { Grows room.old room.new (cells_named (map plain_part parts.now)) }
+    requires { length room.old.cells + cells_in (map plain_part parts.now) ≤ room.old.sorts_room }
+    ensures grows { Grows room.old room.new (cells_in (map plain_part parts.now)) }
     ensures sort { IsTakingAmong room.new.cells (map plain_part parts.now) result }
 {
     for part in parts {
