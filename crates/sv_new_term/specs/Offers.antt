@@ -53,6 +53,10 @@ IsOffered old new node o.Added = IsOffer old new node o.Added
 
 -- ---- a node by number
 
+-- its arguments and its sort are there
+abbrev pub IsNode : TermRows → Shape → List ℕ → Type 0
+IsNode v shape args = AreBelow (length v.rows) args × AreNamed (sorts_of v.cells) shape
+
 abbrev pub Adds : TermRows → TermRows → Shape → List ℕ → Type 0
 Adds old new shape args = IsLonger old new (tree_of old shape args) args 1
 

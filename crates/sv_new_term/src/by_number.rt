@@ -1,8 +1,6 @@
 ghost use Rattle.std.specs.Prelude.{length};
-ghost use Rattle.sv_term_room.specs.TermRows.{AreBelow, HasRoom};
-ghost use Rattle.sv_sort_room.specs.SortCells.{sorts_of};
-ghost use Rattle.sv_node_sort.specs.NeededSorts.{AreNamed};
-ghost use Rattle.sv_new_term.specs.Offers.{IsNodeOffer, IsAddable, Adds};
+ghost use Rattle.sv_term_room.specs.TermRows.{HasRoom};
+ghost use Rattle.sv_new_term.specs.Offers.{IsNode, IsNodeOffer, IsAddable, Adds};
 
 use crate::entry::Outcome;
 use sv_node_sort::{Needed, sort_needed};
@@ -10,7 +8,7 @@ use sv_term_room::{Shape, TermRoom};
 
 /// The same of a node by number.
 pub(crate) fn offer_node(room: &mut TermRoom, shape: Shape, args: &[usize]) -> Outcome
-    requires node { AreBelow (length room.old.rows) args.now × AreNamed (sorts_of room.old.cells) shape }
+    requires node { IsNode room.old shape args.now }
     requires room { HasRoom room.old (length args.now) 1 }
     ensures { IsNodeOffer room.old room.new shape args.now result }
 {
