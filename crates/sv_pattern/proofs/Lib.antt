@@ -1,0 +1,3 @@
+pub mod NumberedTrees
+pub mod Taking
+pub mod Bounding

@@ -1,0 +1,4 @@
+pub mod TermKinds
+pub mod Patterns
+pub mod Openings
+pub mod Bounds
