@@ -8,7 +8,7 @@ use Rattle.sv_log.specs.Logs.{AreFacts, nth_term, nth_terms}
 use Rattle.sv_force.specs.InForce.{Held}
 use Rattle.sv_branch.specs.BranchTrees.{item_of}
 use Rattle.sv_pattern.specs.declared.numbers.Name.TheVariants as name
-use Rattle.sv_pattern.specs.Openings.{IsTwo}
+use Rattle.sv_pattern.specs.NodeOpenings.{IsTwo}
 use Rattle.sv_pattern.proofs.NumberedTrees.{nth_size, node_is}
 use Rattle.sv_by_rule.specs.ItemFacts.{AreEqual, IsGivenBy}
 

@@ -10,7 +10,7 @@ use Rattle.sv_log.specs.Logs.{Known, AreFacts, nth_term}
 use Rattle.sv_force.specs.InForce.{Held, FactOn, RowOf, IsRowAt}
 use Rattle.sv_branch.specs.BranchTrees.{item_of, IsBelow}
 use Rattle.sv_pattern.specs.Patterns.{fact_by, facts_by}
-use Rattle.sv_pattern.specs.Openings.{ArePremises}
+use Rattle.sv_pattern.specs.NodeOpenings.{ArePremises}
 use Rattle.sv_by_rule.specs.ItemFacts.{AreHeld, AreNotHeld, IsGivenBy}
 use Rattle.sv_by_rule.proofs.FewPremises.{few_premises}
 

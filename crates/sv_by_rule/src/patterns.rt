@@ -1,7 +1,7 @@
 ghost use Rattle.std.specs.Prelude.{◌≡◌, ◌↔◌, ◌<◌, length, IsTrue};
 ghost use Rattle.sv_term.specs.FactRules.{IsByRule};
 ghost use Rattle.sv_pattern.specs.Patterns.{facts_by, fact_by};
-ghost use Rattle.sv_pattern.specs.Openings.{ArePremises};
+ghost use Rattle.sv_pattern.specs.NodeOpenings.{ArePremises};
 
 use crate::rows::steps_of;
 use sv_pattern::{TermNumbers, follow};

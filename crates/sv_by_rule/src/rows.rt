@@ -1,6 +1,6 @@
 ghost use Rattle.std.specs.Prelude.{◌≡◌, ◌<◌};
 ghost use Rattle.sv_by_rule.specs.RuleRows.{steps_of};
-ghost use Rattle.sv_pattern.specs.Openings.{named};
+ghost use Rattle.sv_pattern.specs.NodeOpenings.{named};
 
 use sv_pattern::Property::{IsDivisor, IsPlain, IsSummable, IsZero};
 use sv_pattern::Relation::{IsConst, IsGreatest, IsLeast, IsOneLess, IsPart, IsSame, IsWrap};

@@ -6,7 +6,7 @@ use Rattle.sv_term.specs.FactRules.{Fact, range_facts, in_range}
 use Rattle.sv_term.proofs.Same.{sort_is}
 use Rattle.sv_log.specs.Logs.{nth_term}
 use Rattle.sv_pattern.specs.Patterns.{facts_by}
-use Rattle.sv_pattern.specs.Openings.{ArePremises, IsBehind, IsNotBehind}
+use Rattle.sv_pattern.specs.NodeOpenings.{ArePremises, IsBehind, IsNotBehind}
 use Rattle.sv_pattern.specs.Bounds.{low_facts, high_facts}
 use Rattle.sv_pattern.proofs.NumberedTrees.{same_back}
 

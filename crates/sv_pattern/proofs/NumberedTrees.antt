@@ -13,7 +13,7 @@ use Rattle.sv_log.specs.Logs.{nth_term, nth_terms}
 use Rattle.sv_term.specs.FactRuleTest.{shape_of, args_of}
 use Rattle.sv_pattern.specs.TermKinds.{shape_by, kind_of, HasArgs, AreApart}
 use Rattle.sv_pattern.specs.Patterns.{AreRelated, trees_by}
-use Rattle.sv_pattern.specs.Openings.{AreBelow, IsArgument, HasOnly, HasNotOne, IsOpened, IsNotOpened}
+use Rattle.sv_pattern.specs.NodeOpenings.{AreBelow, IsArgument, HasOnly, HasNotOne, IsOpened, IsNotOpened}
 use Rattle.sv_pattern.specs.declared.numbers.Name.{Name}
 use Rattle.sv_pattern.specs.declared.numbers.Name.TheVariants as n
 use Rattle.sv_pattern.specs.declared.numbers.Kind.TheVariants as k

@@ -9,7 +9,7 @@ use Rattle.sv_term.specs.FactRules.{Fact, Says, in_range}
 use Rattle.sv_log.specs.Logs.{nth_term, nth_terms}
 use Rattle.sv_pattern.specs.TermKinds.{shape_by}
 use Rattle.sv_pattern.specs.Patterns.{Follows, HasProperty, AreRelated, signed, fact_by, facts_by, trees_by}
-use Rattle.sv_pattern.specs.Openings.{AreBelow, ArePremises, IsOpened, IsNotOpened, IsReady, Fails, Passes, IsBehind, IsNotBehind, IsNoPremise}
+use Rattle.sv_pattern.specs.NodeOpenings.{AreBelow, ArePremises, IsOpened, IsNotOpened, IsReady, Fails, Passes, IsBehind, IsNotBehind, IsNoPremise}
 use Rattle.sv_pattern.specs.declared.numbers.Name.{Name}
 use Rattle.sv_pattern.specs.declared.step.Sign.{Sign}
 use Rattle.sv_pattern.specs.declared.step.Property.{Property}

@@ -6,7 +6,7 @@ use Rattle.sv_term.specs.FactRules.{Fact, Says, in_range, has_least, has_greates
 use Rattle.sv_term.specs.Banks.{range_of}
 use Rattle.sv_term.specs.declared.node.Range as range
 use Rattle.sv_log.specs.Logs.{nth_term}
-use Rattle.sv_pattern.specs.Openings.{ArePremises, IsBehind, IsNotBehind}
+use Rattle.sv_pattern.specs.NodeOpenings.{ArePremises, IsBehind, IsNotBehind}
 
 abbrev pub low_facts : Range → Term → List Fact
 low_facts Any v = []

@@ -1,4 +1,4 @@
 pub mod TermKinds
 pub mod Patterns
-pub mod Openings
+pub mod NodeOpenings
 pub mod Bounds

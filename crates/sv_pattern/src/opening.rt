@@ -3,7 +3,7 @@ ghost use Rattle.sv_term.specs.Terms.{Lit};
 ghost use Rattle.sv_term.specs.FactRuleTest.{shape_of};
 ghost use Rattle.sv_log.specs.Logs.{nth_term};
 ghost use Rattle.sv_pattern.specs.TermKinds.{shape_by, kind_of};
-ghost use Rattle.sv_pattern.specs.Openings.{IsTwo, IsNoTwo, CanOpen, Opened};
+ghost use Rattle.sv_pattern.specs.NodeOpenings.{IsTwo, IsNoTwo, CanOpen, Opened};
 
 use crate::numbers::{Kind, Name, TermNumbers};
 use crate::step::Registers;

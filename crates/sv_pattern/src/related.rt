@@ -2,7 +2,7 @@ ghost use Rattle.std.specs.Prelude.{◌≡◌, ◌↔◌, ◌<◌, ◌≤◌, fa
 ghost use Rattle.sv_term.specs.Terms.{Lit};
 ghost use Rattle.sv_log.specs.Logs.{nth_term};
 ghost use Rattle.sv_pattern.specs.Patterns.{HasProperty};
-ghost use Rattle.sv_pattern.specs.Openings.{AreThere, RelatedAt, HasArgument, IsArgument, HasOnly, HasNotOne};
+ghost use Rattle.sv_pattern.specs.NodeOpenings.{AreThere, RelatedAt, HasArgument, IsArgument, HasOnly, HasNotOne};
 ghost use Rattle.sv_pattern.specs.declared.step.Property.TheVariants.{IsDivisor};
 ghost use Rattle.sv_pattern.specs.declared.step.Relation.TheVariants.{IsSame, IsOneLess, IsLeast, IsGreatest, IsPart};
 

@@ -1,6 +1,6 @@
 ghost use Rattle.std.specs.Prelude.{◌≡◌, ◌↔◌, ◌<◌, true, false, [], ◌∷◌, length, IsTrue, MatchOption};
 ghost use Rattle.sv_pattern.specs.Patterns.{IsByPattern, signed, fact_by, facts_by};
-ghost use Rattle.sv_pattern.specs.Openings.{IsReady, Fails, Passes, IsNoPremise, TakesOne, CanFollow};
+ghost use Rattle.sv_pattern.specs.NodeOpenings.{IsReady, Fails, Passes, IsNoPremise, TakesOne, CanFollow};
 
 use crate::bounds::after_range;
 use crate::numbers::TermNumbers;

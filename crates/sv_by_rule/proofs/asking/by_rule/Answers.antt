@@ -1,7 +1,7 @@
 use Rattle.std.proofs.Common.{◌↔◌, IsTrue, sym, subst}
 use Rattle.sv_term.specs.FactRules.{IsByRule}
 use Rattle.sv_pattern.specs.Patterns.{fact_by, facts_by}
-use Rattle.sv_pattern.specs.Openings.{ArePremises}
+use Rattle.sv_pattern.specs.NodeOpenings.{ArePremises}
 use Rattle.sv_by_rule.proofs.Gathering.{given_by, none_given, held_premises}
 use Rattle.sv_by_rule.proofs.asking.by_rule.Goals as goal
 

@@ -1,5 +1,5 @@
 use Rattle.std.proofs.Common.{drop}
-use Rattle.sv_pattern.specs.Openings.{IsFollowing}
+use Rattle.sv_pattern.specs.NodeOpenings.{IsFollowing}
 use Rattle.sv_pattern.proofs.walk.follow.Given as goal
 
 abbrev pub invariant-loop-step : goal.invariant-loop-step

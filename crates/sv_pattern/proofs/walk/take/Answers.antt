@@ -2,7 +2,7 @@ use Rattle.std.proofs.Common.{Option, MatchOption, ℕ, ◌≡◌, ◌↔◌, Bo
 use Rattle.sv_log.specs.Logs.{nth_term}
 use Rattle.std.proofs.lemmas.Bool.{MatchBool-at_true, MatchBool-at_false}
 use Rattle.sv_term.specs.Terms.{Term}
-use Rattle.sv_pattern.specs.Openings.{AreBelow, ArePremises, Fails, Passes, IsOpened, IsNotOpened}
+use Rattle.sv_pattern.specs.NodeOpenings.{AreBelow, ArePremises, Fails, Passes, IsOpened, IsNotOpened}
 use Rattle.sv_pattern.specs.declared.step.Step.{Step}
 use Rattle.sv_pattern.specs.declared.step.Step.TheVariants.{Concludes, Premise, One, Two, Three, Is, Are, InRange}
 use Rattle.sv_pattern.proofs.Taking.{weaker, fails_one, fails_two, fails_three, passes_one, passes_two, passes_three, fails_premise, passes_premise, fails_is, passes_is, fails_are, passes_are, fails_range, passes_range}

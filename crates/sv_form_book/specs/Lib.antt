@@ -1,0 +1,4 @@
+pub mod FormKnown
+pub mod SitePlaces
+pub mod FormBases
+pub mod FormRules
