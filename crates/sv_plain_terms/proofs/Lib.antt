@@ -1,0 +1,3 @@
+pub mod FittingSorts
+pub mod FlagsOfTerms
+pub mod FlagsBelow
