@@ -156,9 +156,9 @@ is_base_of items None n = false
 is_base_of items (Some c) n = has_base (length items) items n c
 
 -- a modifier on a constructor that is no base
-abbrev pub is_no_base : Known → HeadKind → Bool
-is_no_base k (head.Use n args) = is_constructor k.owner && not (is_base_of k.items k.contract n)
-is_no_base k _ = false
+abbrev pub is_no_base : List UnitItem → Option ℕ → Owner → HeadKind → Bool
+is_no_base items contract o (head.Use n args) = is_constructor o && not (is_base_of items contract n)
+is_no_base items contract o _ = false
 
 abbrev pub has_body : Option BlockNode → Bool
 has_body None = false
@@ -179,7 +179,7 @@ has_virtual_twice (w ∷ ws) = (is_virtual_word w && has_virtual ws) || has_virt
 
 abbrev pub misheads : Known → Site → Bool
 -- a word that stands twice or contradicts an earlier one
-misheads k (OfHead h) = word_contradicts k.words (head_word h.kind) || is_no_base k h.kind
+misheads k (OfHead h) = word_contradicts k.words (head_word h.kind) || is_no_base k.items k.contract k.owner h.kind
 misheads k (OfWord w) = contradicts k.words (var_word w.kind)
 misheads k (OfOver o) = contradicts k.words word.Override
 misheads k (OfModifier m) = has_virtual_twice m.words
