@@ -1,7 +1,7 @@
 use Rattle.std.proofs.Common.{rules, slice_index_or, pos, FitsSigned}
 use mir.Syntax.{w128}
-use Rattle.sv_forms.proofs.Forming.{one_more}
-use Rattle.sv_forms.proofs.asking.read.Goals as goal
+use Rattle.sv_term_forms.proofs.Forming.{one_more}
+use Rattle.sv_term_forms.proofs.asking.read.Goals as goal
 
 pub loop-k-preserved : goal.loop-k-preserved
 loop-k-preserved c =

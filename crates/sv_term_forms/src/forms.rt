@@ -2,7 +2,7 @@ ghost use Rattle.std.specs.Prelude.{◌≡◌, ◌<◌, [], length, IfOk};
 ghost use Rattle.sv_log.specs.LogRows.{row};
 ghost use Rattle.sv_row.specs.RowParts.{monomials};
 ghost use Rattle.sv_form_rows.specs.TermForms.{AreFormsOf};
-ghost use Rattle.sv_forms.specs.FormLists.{form_list, AnswersForm};
+ghost use Rattle.sv_term_forms.specs.FormLists.{form_list, AnswersForm};
 
 use crate::asking::is_form_of;
 use std::alloc::Global;
@@ -24,7 +24,7 @@ impl Model for Forms {
     ghost use Rattle.std.specs.Prelude.{◌≡◌, ◌≤◌, length, vec_capacity};
     ghost use Rattle.sv_form.specs.Nodes.{AreSound};
     ghost use Rattle.sv_form.specs.TermWeights.{IsBlank};
-    ghost use Rattle.sv_forms.specs.FormLists.{FormList, form_list};
+    ghost use Rattle.sv_term_forms.specs.FormLists.{FormList, form_list};
 
     ghost Value = { FormList };
 

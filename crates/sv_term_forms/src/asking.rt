@@ -3,7 +3,7 @@ ghost use Rattle.sv_log.specs.LogRows.{row};
 ghost use Rattle.sv_row.specs.RowParts.{monomials, AreInRange};
 ghost use Rattle.sv_form.specs.TermWeights.{IsBlank};
 ghost use Rattle.sv_form_rows.specs.Questions.{AreReady};
-ghost use Rattle.sv_forms.specs.FormLists.{AnswersForm};
+ghost use Rattle.sv_term_forms.specs.FormLists.{AnswersForm};
 
 use sv_form::Linear;
 use sv_form_rows::{is_difference, sides_of};

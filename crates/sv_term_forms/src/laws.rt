@@ -1,4 +1,4 @@
-ghost use Rattle.sv_forms.specs.FormLists.{FormsAreNormal};
+ghost use Rattle.sv_term_forms.specs.FormLists.{FormsAreNormal};
 
 /// A row that is the form of a fact is in normal form.
 pub fn forms_are_normal()

@@ -5,8 +5,8 @@ use Rattle.sv_log.specs.LogRows.{row}
 use Rattle.sv_form.specs.declared.node.Linear.TheVariants.{Literal}
 use Rattle.sv_row.specs.RowParts.{monomials}
 use Rattle.sv_form_rows.specs.Questions.{TellsDifference}
-use Rattle.sv_forms.proofs.Forming.{answers_none, answers_some, row_fits, sides_within}
-use Rattle.sv_forms.proofs.asking.is_form_of.Goals as goal
+use Rattle.sv_term_forms.proofs.Forming.{answers_none, answers_some, row_fits, sides_within}
+use Rattle.sv_term_forms.proofs.asking.is_form_of.Goals as goal
 
 pub is_difference-requires-clause-within : goal.is_difference-requires-clause-within
 is_difference-requires-clause-within c =

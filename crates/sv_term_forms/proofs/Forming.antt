@@ -23,7 +23,7 @@ use Rattle.sv_form_rows.specs.Questions.{gap_row, ShowsSides, HasSides, TellsDif
 use Rattle.sv_form_rows.proofs.KeptForms.{normal_forms}
 use Rattle.sv_form_rows.proofs.NormalRows.{normal_difference}
 use Rattle.sv_form_rows.proofs.RowNumbers.{same_column}
-use Rattle.sv_forms.specs.FormLists.{AnswersForm, FormsAreNormal}
+use Rattle.sv_term_forms.specs.FormLists.{AnswersForm, FormsAreNormal}
 
 pub no_terms : AreFormsOf [] []
 no_terms = record {
