@@ -162,7 +162,7 @@ module _ (ts : List Term) where
     pub normal_form : (t : Term) → IsNormal (form ts t).parts
     normal_form (App x vs) = normal_node (row (pos 0) (monomial (pos 1) (number_of ts (App x vs)) ∷ [])) vs (forms ts vs) (normal_column (number_of ts (App x vs))) (λ k. normal_forms vs k) x
 
-    normal_forms : (vs : Terms) (k : ℕ) → IsNormal (form_at k (forms ts vs)).parts
+    pub normal_forms : (vs : Terms) (k : ℕ) → IsNormal (form_at k (forms ts vs)).parts
     normal_forms End k = normal_none
     normal_forms (More v vs) zero = normal_form v
     normal_forms (More v vs) (suc k) = normal_forms vs k

@@ -1,0 +1,12 @@
+//! The linear forms of a list of terms: what is kept of each term, and whether a row is the form of a fact on one of them.
+//!
+//! Promises: `Forms::is_form` is true exactly where the row is the form of the fact, for every list of terms that the nodes are those of. After `new` no call takes memory.
+//! Stands on: `sv_form_rows`, and on `sv_log` for what a linear form is.
+//! Read first: `specs/FormLists.antt`.
+#![tactic(auto)]
+
+mod asking;
+mod forms;
+pub mod laws;
+
+pub use forms::Forms;
