@@ -33,7 +33,7 @@ pub record Follows (g : List (List ℕ)) (starts : List ℕ) (s : Search) : Type
   pub waits : (a : ℕ) → Contains s.waiting a → IsMet s a
   pub followed : (a : ℕ) → IsMet s a → Contains s.waiting a ⊎ ((b : ℕ) → HasEdge g a b → IsMet s b)
 
-none_met : (n a : ℕ) → get_or (replicate n false) a false ≡ false
+pub none_met : (n a : ℕ) → get_or (replicate n false) a false ≡ false
 none_met zero a = refl
 none_met (suc n) zero = refl
 none_met (suc n) (suc a) = none_met n a

@@ -1,3 +1,4 @@
 pub mod Searching
 pub mod Following
-pub mod Rings
+pub mod Returning
+pub mod Stripping

@@ -26,10 +26,10 @@ pub record Enters (nodes : List ℕ) (s t : Search) : Type 0 where
 
 -- ---- one node
 
-is_one : (a b : ℕ) → Contains (a ∷ []) b → a ≡ b
+pub is_one : (a b : ℕ) → Contains (a ∷ []) b → a ≡ b
 is_one a b h = elim (Contains-push_cases [] a b h) [ inl e ↦ absurd (omega (arith, e.1)) | inr e ↦ e ]
 
-is_node : (ms : List Bool) (a : ℕ) → get_or ms a true ≡ false → a < length ms
+pub is_node : (ms : List Bool) (a : ℕ) → get_or ms a true ≡ false → a < length ms
 is_node ms a h = elim (cases_lt a (length ms)) [ inl l ↦ l | inr l ↦ absurd (let e = get_or_past ms a true l in cc) ]
 
 one_less : (ms : List Bool) (a : ℕ) → get_or ms a true ≡ false → unmet (slice_set ms a true) + 1 ≡ unmet ms

@@ -7,8 +7,11 @@
 #![tactic(auto)]
 
 mod reach;
+mod rings;
+mod strip;
 
-pub use reach::{on_a_ring, reached};
+pub use reach::reached;
+pub use rings::on_a_ring;
 
 #[cfg(test)]
 mod tests {

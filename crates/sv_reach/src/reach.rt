@@ -2,7 +2,7 @@
 #![tactic(auto)]
 
 ghost use Rattle.std.specs.Prelude.{◌≡◌, [], true, false, length, slice_index_or, replicate, IfOk, OnOk};
-ghost use Rattle.sv_reach.specs.Paths.{AreMarks, IsReached, IsOnRing};
+ghost use Rattle.sv_reach.specs.Paths.{AreMarks, IsReached};
 ghost use Rattle.sv_reach.specs.Searches.{entered, all_entered};
 
 use sqlite_items::Items;
@@ -40,7 +40,7 @@ impl Search {
 }
 
 /// Whether a node was met; a number that is no node counts as met.
-fn is_met(met: &[bool], node: u32) -> bool
+pub(crate) fn is_met(met: &[bool], node: u32) -> bool
     ensures { result ≡ slice_index_or met.now node true }
 {
     match met.get(node as usize) {
@@ -50,14 +50,14 @@ fn is_met(met: &[bool], node: u32) -> bool
 }
 
 /// No node is met.
-fn unmet(alloc: Global, n: usize) -> Result<Items<bool>, AllocError>
+pub(crate) fn unmet(alloc: Global, n: usize) -> Result<Items<bool>, AllocError>
     ensures { IfOk result (λ r. r ≡ replicate n false) }
 {
     Ok(Items::from_vec(vec![in alloc; false; n]?))
 }
 
 /// The successors of a node, none where it is no node.
-fn successors(graph: &[Items<u32>], node: u32) -> &[u32]
+pub(crate) fn successors(graph: &[Items<u32>], node: u32) -> &[u32]
     ensures { result.now ≡ slice_index_or graph.now node [] }
 {
     match graph.get(node as usize) {
@@ -84,27 +84,4 @@ pub fn reached(
         search.enter_all(successors(graph, node))?;
     }
     Ok(search.met)
-}
-
-/// What a mark says; a number without a mark has none.
-fn is_marked(marks: &[bool], at: usize) -> bool
-    ensures { result ≡ slice_index_or marks.now at false }
-{
-    match marks.get(at) {
-        Some(mark) => *mark,
-        None => false,
-    }
-}
-
-/// Whether each node of a graph lies on a ring: a path of at least one edge leads from it to itself. A graph is the list of the
-/// successors of each node; a successor that is no node counts for nothing.
-pub fn on_a_ring(alloc: Global, graph: &[Items<u32>]) -> Result<Items<bool>, AllocError>
-    ensures { IfOk result (λ marks. AreMarks (length graph.now) (IsOnRing graph.now) marks) }
-{
-    let mut marks = Items::new(alloc);
-    for next in graph {
-        let met = reached(alloc, graph, next.as_slice())?;
-        marks.push(is_marked(met.as_slice(), marks.len()))?;
-    }
-    Ok(marks)
 }

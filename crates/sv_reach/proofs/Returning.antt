@@ -1,6 +1,6 @@
 -- A node is on a ring where one of its successors reaches it; marks one after another.
 use Rattle.std.proofs.Common.{inl, inr, ℕ, zero, suc, ◌≡◌, ◌∙◌, ◌+◌, ◌<◌, ◌↔◌, Bool, false, IsTrue, List, [], ◌∷◌, ◌++◌, length, get_or, slice_index_or, refl, sym, ap, subst, arith, length-append}
-use Rattle.std.proofs.lemmas.List.{get_or_append_left, get_or_push, get_or_read}
+use Rattle.std.proofs.lemmas.List.{get_or_append_left, get_or_push}
 use Rattle.std.proofs.lemmas.Bool.{cases_lt}
 use Rattle.sv_reach.specs.Paths.{Path, IsReached, IsOnRing, AreMarks}
 use Rattle.sv_reach.proofs.Following.{edge_from}
@@ -29,13 +29,9 @@ one_mark_more P n marks b m is = (
   ],
 )
 
--- the node behind those that are marked
-pub ring_marked : (g : List (List ℕ)) (n : ℕ) (next : List ℕ) (marks met : List Bool) (b : Bool) → n < length g → next ≡ get_or g n next → AreMarks n (IsOnRing g) marks → AreMarks (length g) (IsReached g next) met → b ≡ get_or met (length marks) false → AreMarks (n + 1) (IsOnRing g) (marks ++ b ∷ [])
-ring_marked g n next marks met b l is m all e =
-    let own : next ≡ slice_index_or g n [] = get_or_read g n next l is [] in
-    let here : b ≡ get_or met n false = e ∙ ap (λ x. get_or met x false) m.0 in
-    let r = all.1 n l in
-    let q = subst (λ x. IsTrue x ↔ IsReached g next n) (sym here) r in
+pub ring_found : (g : List (List ℕ)) (n : ℕ) (next : List ℕ) (met : List Bool) (b : Bool) → n < length g → next ≡ slice_index_or g n [] → AreMarks (length g) (IsReached g next) met → b ≡ get_or met n false → IsTrue b ↔ IsOnRing g n
+ring_found g n next met b l own all e =
+    let q = subst (λ x. IsTrue x ↔ IsReached g next n) (sym e) (all.1 n l) in
     let w = subst (λ x. IsTrue b ↔ IsReached g x n) own q in
     let i = ring_by_successor g n l in
-    one_mark_more (IsOnRing g) n marks b m (λ t. i.0 (w.0 t), λ t. w.1 (i.1 t))
+    (λ t. i.0 (w.0 t), λ t. w.1 (i.1 t))
