@@ -25,7 +25,7 @@ pub struct Forms<'a> {
 }
 
 /// Why it gives up: never.
-#[derive(Clone, Copy, Debug)]
+#[derive(Clone, Copy)]
 pub enum Never {}
 
 impl<'a> Forms<'a> {
