@@ -6,7 +6,10 @@
 #![tactic(auto)]
 
 mod asking;
+mod form_node;
 mod forms;
+mod keeping;
 pub mod laws;
 
+pub use form_node::FormNode;
 pub use forms::Forms;
