@@ -1,1 +1,3 @@
 pub mod Forming
+pub mod Growing
+pub mod NextNodes
