@@ -1,11 +1,11 @@
 -- What nodes tell stays as a term is put behind.
-use Rattle.std.proofs.Common.{ℕ, ◌+◌, ◌<◌, ◌⊎◌, inl, inr, Bool, true, false, List, [], ◌∷◌, ◌++◌, length, ◌≡◌, IsTrue, refl, sym, ap, ap₂, ◌∙◌, subst, arith}
+use Rattle.std.proofs.Common.{ℕ, ◌+◌, ◌<◌, ◌⊎◌, inl, inr, true, false, List, [], ◌∷◌, ◌++◌, length, ◌≡◌, IsTrue, refl, sym, ap, ap₂, ◌∙◌, subst, arith}
 use Rattle.std.specs.List.{Contains}
 use Rattle.std.proofs.lemmas.List.{get_or_append_left, length-append}
 use Rattle.std.proofs.lemmas.List.Elements.{Contains-append_right}
 use Rattle.std.proofs.Math.Seq.{get_or-append_seam}
 use Rattle.sv_term.specs.Sorts.{is_num}
-use Rattle.sv_term.specs.Terms.{MulNode, Term, App, Terms, End, More, Lit, Mul, Le, Eq, sort_of}
+use Rattle.sv_term.specs.Terms.{MulNode, Term, App, Terms, End, More, Le, Eq, sort_of}
 use Rattle.sv_log.specs.FormsOfTerms.{is_column, form, IsWorkedOut}
 use Rattle.sv_log.specs.Logs.{nth_term}
 use Rattle.sv_form.specs.declared.node.Linear.{Linear}

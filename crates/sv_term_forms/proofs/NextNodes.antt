@@ -6,7 +6,7 @@ use mir.Syntax.{w128}
 use lib.IntN.{ℤ}
 use Rattle.sv_num.specs.Range.{IsI128}
 use Rattle.sv_term.specs.Sorts.{is_num}
-use Rattle.sv_term.specs.Terms.{Term, App, Lit, Add, Sub, Mul, Le, Eq, sort_of}
+use Rattle.sv_term.specs.Terms.{Term, Lit, Add, Sub, Mul, Le, Eq, sort_of}
 use Rattle.sv_log.specs.LogEntries.{Row}
 use Rattle.sv_log.specs.LogRows.{multiple, FitsRow}
 use Rattle.sv_log.specs.FormsOfTerms.{is_lit, lit_value, form, IsWorkedOut}
@@ -20,11 +20,9 @@ use Rattle.sv_form_rows.specs.TermForms.{form_of, joined_rows, IsLiteral, IsPlai
 use Rattle.sv_form_rows.specs.Questions.{CanJoin}
 use Rattle.sv_form_rows.proofs.Answering.{read}
 use Rattle.sv_form_rows.proofs.Spreading.{fits_by}
-use Rattle.sv_term_forms.specs.declared.form_node.FormNode.{FormNode}
 use Rattle.sv_term_forms.specs.declared.form_node.FormNode.TheVariants as told
-use Rattle.sv_term_forms.specs.NextTerms.{IsNodeOf}
-use Rattle.sv_term_forms.specs.KeptNodes.{Keeps, IsJoin, is_literal_node, CanMultiply}
-use Rattle.sv_term_forms.proofs.Growing.{nth_kept, form_kept, form_of_kept, worked_kept, worked_back, in_terms}
+use Rattle.sv_term_forms.specs.KeptNodes.{Keeps, IsJoin, is_literal_node}
+use Rattle.sv_term_forms.proofs.Growing.{nth_kept, form_kept, form_of_kept, worked_kept, worked_back}
 
 -- the form of t is made of those of x and y, and t is worked out where these are and its form fits
 pub record Makes (us : List Term) (how : Join) (t x y : Term) : Type 0 where
