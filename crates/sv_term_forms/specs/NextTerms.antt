@@ -1,9 +1,9 @@
 -- Believed: what is told of a next term, and what a call that takes it in makes of the nodes. Hold it against the README's table of what is told of a term.
-use Rattle.std.specs.Prelude.{ℕ, ◌<◌, true, List, [], ◌∷◌, ◌++◌, ◌≡◌}
-use Rattle.std.specs.List.{Contains}
+use Rattle.std.specs.Prelude.{ℕ, ◌<◌, true, List, [], ◌∷◌, ◌++◌, length, ◌≡◌}
+use Rattle.std.specs.List.{AllByRecursion, Contains}
 use Rattle.sv_term.specs.Sorts.{is_num}
-use Rattle.sv_term.specs.Terms.{Term, Lit, Add, Sub, Mul, Le, Eq, sort_of}
-use Rattle.sv_log.specs.Logs.{nth_term}
+use Rattle.sv_term.specs.Terms.{Shape, Term, App, Lit, Add, Sub, Mul, Le, Eq, fits, sort_of}
+use Rattle.sv_log.specs.Logs.{nth_term, nth_terms}
 use Rattle.sv_form.specs.declared.node.Linear.{Linear}
 use Rattle.sv_form_rows.specs.TermForms.{is_own_column, IsPlain, AreFormsOf}
 use Rattle.sv_term_forms.specs.declared.form_node.FormNode.{FormNode}
@@ -35,3 +35,8 @@ IsOneLonger old new = (l : Linear) × (new ≡ old ++ l ∷ [])
 -- where the old nodes are those of some terms, and t is a new term of which the node tells, the new nodes are those of the terms with t behind
 abbrev pub TakesIn : List Linear → FormNode → List Linear → Type 0
 TakesIn old node new = (ts : List Term) (t : Term) → AreFormsOf ts old → IsNodeOf ts t node → (Contains ts t → ⊥) → AreFormsOf (ts ++ t ∷ []) new
+
+-- of every fitting term over the terms of a list some node tells
+abbrev pub EachIsTold : Type 0
+EachIsTold = (ts : List Term) (x : Shape) (ns : List ℕ) → AllByRecursion (λ n. n < length ts) ns → fits (App x (nth_terms ts ns)) ≡ true
+    → (node : FormNode) × IsNamedBelow (length ts) node × IsNodeOf ts (App x (nth_terms ts ns)) node
