@@ -10,6 +10,8 @@ mod form_node;
 mod forms;
 mod keeping;
 pub mod laws;
+#[cfg(test)]
+mod tests;
 
 pub use form_node::FormNode;
 pub use forms::Forms;
