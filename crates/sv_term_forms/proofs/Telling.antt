@@ -1,12 +1,11 @@
 -- Of every fitting term some node tells.
-use Rattle.std.proofs.Common.{ℕ, ◌<◌, Bool, true, false, List, [], ◌∷◌, length, ◌≡◌, refl, subst}
+use Rattle.std.proofs.Common.{ℕ, ◌<◌, Bool, true, false, List, [], ◌∷◌, length, ◌≡◌, refl}
 use Rattle.std.specs.List.{AllByRecursion}
 use Rattle.sv_term.specs.Sorts.{Sort, is_num}
 use Rattle.sv_term.specs.Terms.{Shape, LitNode, AddNode, SubNode, MulNode, LeNode, EqNode, Term, App, both_num, of_none, of_two, fits_node, sort_of, sorts_of}
 use Rattle.sv_term.specs.Sorts.{matches}
 use Rattle.sv_term.proofs.Same.{both_true}
 use Rattle.sv_log.specs.Logs.{nth_term, nth_terms}
-use Rattle.sv_form_rows.specs.TermForms.{is_own_column, compares}
 use Rattle.sv_term_forms.specs.declared.form_node.FormNode.{FormNode}
 use Rattle.sv_term_forms.specs.declared.form_node.FormNode.TheVariants.{Literal, Sum, Difference, Product, AtMost, Equal, Other}
 use Rattle.sv_term_forms.specs.NextTerms.{IsNodeOf, IsNamedBelow, EachIsTold}

@@ -62,7 +62,11 @@ fn forms_of_facts(rt: HostRuntime) -> Result<(), Fail> {
         (true, 15, true, i128::MIN + 1, [(-2, 1), (-1, 2)], false),
     ] {
         assert!(rt; n < forms.len());
-        assert_eq!(rt; forms.is_form(sign, n, forward, constant, &parts), want, "{n} {constant}");
+        assert_eq!(rt;
+            forms.is_form(sign, n, forward, constant, &parts),
+            want,
+            "{n} {constant}"
+        );
     }
     Ok(())
 }
