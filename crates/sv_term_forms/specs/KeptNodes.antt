@@ -31,6 +31,9 @@ is_literal_node (Literal z) = true
 is_literal_node Wide = true
 is_literal_node l = false
 
+abbrev pub AreBelow : ℕ → ℕ → ℕ → Type 0
+AreBelow n a b = (a < n) × (b < n)
+
 -- the first of two terms is no literal
 abbrev pub CanMultiply : List Linear → ℕ → ℕ → Type 0
 CanMultiply nodes a b = (a < length nodes) × (b < length nodes) × (is_literal_node (node_at nodes a) ≡ false)

@@ -1,4 +1,4 @@
-ghost use Rattle.std.specs.Prelude.{◌≡◌, ◌<◌, length, MatchOption};
+ghost use Rattle.std.specs.Prelude.{◌≡◌, length, MatchOption};
 ghost use Rattle.sv_num.specs.Range.{IsI128};
 ghost use Rattle.sv_term.specs.Terms.{Lit};
 ghost use Rattle.sv_log.specs.FormsOfTerms.{lit_value};
@@ -6,7 +6,7 @@ ghost use Rattle.sv_form.specs.TermWeights.{IsBlank};
 ghost use Rattle.sv_form_rows.specs.Questions.{AreReady};
 ghost use Rattle.sv_term_forms.specs.declared.form_node.FormNode.TheVariants.{Product};
 ghost use Rattle.sv_term_forms.specs.NextTerms.{IsNamedBelow};
-ghost use Rattle.sv_term_forms.specs.KeptNodes.{Keeps, IsJoin, CanMultiply, KeepsLiteral};
+ghost use Rattle.sv_term_forms.specs.KeptNodes.{Keeps, IsJoin, AreBelow, CanMultiply, KeepsLiteral};
 
 use crate::form_node::FormNode;
 use sv_form::{Join, Linear};
@@ -71,7 +71,7 @@ fn kept_join(
     first: &mut [i128],
     second: &mut [i128],
 ) -> Linear
-    requires { (a < length nodes.now) × (b < length nodes.now) × AreReady nodes.now first.old second.old }
+    requires { AreBelow (length nodes.now) a b × AreReady nodes.now first.old second.old }
     ensures blank { IsBlank first.new × IsBlank second.new }
     ensures join { IsJoin nodes.now how a b result }
 {
@@ -89,7 +89,7 @@ fn kept_product(
     first: &mut [i128],
     second: &mut [i128],
 ) -> Linear
-    requires { (a < length nodes.now) × (b < length nodes.now) × AreReady nodes.now first.old second.old }
+    requires { AreBelow (length nodes.now) a b × AreReady nodes.now first.old second.old }
     ensures blank { IsBlank first.new × IsBlank second.new }
     ensures keeps { Keeps nodes.now (Product a b) result }
 {
