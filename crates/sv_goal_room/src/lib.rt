@@ -6,9 +6,9 @@
 //! Read first: `specs/GoalRooms.antt`.
 #![tactic(auto)]
 
-mod fill;
 mod node;
+mod room;
 mod size;
 mod sorts;
 
-pub use fill::{GoalRoom, fill};
+pub use room::{GoalRoom, fill};
