@@ -1,7 +1,8 @@
 -- The room while the terms of a goal are put into it, one after another.
-use Rattle.std.proofs.Common.{ℕ, zero, suc, ◌+◌, ◌<◌, ◌≤◌, List, [], ◌∷◌, ◌++◌, ◌≡◌, length, map, take, slice_get, Some, refl, sym, ap, ap₂, ◌∙◌, subst, arith}
+use Rattle.std.proofs.Common.{ℕ, zero, suc, ◌+◌, ◌<◌, ◌≤◌, List, [], ◌∷◌, ◌++◌, ◌≡◌, length, map, take, slice_get, slice_index_or, Some, refl, sym, ap, ap₂, ◌∙◌, subst, arith}
+use Rattle.std.specs.List.{Contains}
 use Rattle.std.proofs.lemmas.List.{length-append, length-take-le, map-append}
-use Rattle.std.proofs.lemmas.Option.{slice_get_within}
+use Rattle.std.proofs.lemmas.Option.{slice_get_within, slice_get-get_or}
 use Rattle.sv_term.specs.Terms.{Term, sort_of}
 use Rattle.sv_term.specs.Banks.{Nodes, SortRow, IsTerm, AreTerms, term, term_list}
 use Rattle.sv_term.specs.declared.node.SortId.{SortId}
@@ -12,14 +13,15 @@ use Rattle.sv_sort_room.specs.SortCells.{nth_sort, sorts_of, IsNumber}
 use Rattle.sv_sort_room.specs.declared.cell.Cell.{Cell}
 use Rattle.sv_sort_room.proofs.CellTrees.{sorts_length}
 use Rattle.sv_bank_sorts.specs.SortNumbering.{taken_by_all, number_at}
-use Rattle.sv_term_room.specs.TermRows.{TermRow, TermRows, term_rows, with_row, trees_by, args_of, terms_of, IsTermNumber}
+use Rattle.sv_term_room.specs.TermRows.{TermRow, TermRows, term_rows, with_row, with_cells, trees_by, args_of, terms_of, IsTermNumber}
 use Rattle.sv_term_room.proofs.TermTrees.{trees_length, nth_got}
 use Rattle.sv_room.specs.HeldRooms as held
 use Rattle.sv_room.specs.HeldRooms.{args_in}
 use Rattle.sv_room.specs.declared.room.Room.{Room}
+use Rattle.sv_goal_terms.proofs.WalkLaws.{Has}
 use Rattle.sv_goal_room.specs.GoalRooms.{HasMore, TakesArgs}
 use Rattle.sv_goal_room.specs.GoalFilling.{AreNumbered, IsOrder, IsBegun, IsNext, IsPut, ArePut}
-use Rattle.sv_goal_room.proofs.GoalOrder.{mapped, mapped_take, take_more, take_whole}
+use Rattle.sv_goal_room.proofs.GoalOrder.{mapped, mapped_take, take_more, take_whole, holds_goal, one_is_there}
 use Rattle.sv_goal_room.proofs.NodesByNumber.{args_push, args_until}
 use Rattle.sv_goal_room.proofs.Putting.{list_map}
 
@@ -195,3 +197,65 @@ module _ (b : Nodes) (order : List TermId) (cells : List Cell) (more : Room) (ol
           args = omega (arith, taken, args_room, a);
           sorts = omega (arith, same, sorts_room, q);
         }
+
+-- ---- the beginning, and the whole
+
+pub begins : (b : Nodes) (order : List TermId) (cells : List Cell) (more : Room) (mid new : TermRows) (room args sorts : ℕ) → mid ≡ term_rows [] [] room args sorts → new ≡ with_cells new.cells mid
+    → sorts_of new.cells ≡ sorts_of cells → room ≡ length order + more.terms → args ≡ args_in (term_list b order) + more.args → sorts ≡ length cells + more.sorts → IsBegun b order cells more new
+begins b order cells more mid new room args sorts e f kinds i j k =
+    let size : length new.cells ≡ length cells = let n = sorts_length new.cells in let m = sorts_length cells in let g = ap length kinds in omega (arith, n, m, g) in
+    record {
+      none = ap (λ (v : TermRows). v.rows) f ∙ ap (λ (v : TermRows). v.rows) e;
+      kinds = kinds;
+      terms = ap (λ (v : TermRows). v.room) f ∙ ap (λ (v : TermRows). v.room) e ∙ i;
+      args = ap (λ (v : TermRows). v.args_room) f ∙ ap (λ (v : TermRows). v.args_room) e ∙ j;
+      sorts = ap (λ (v : TermRows). v.sorts_room) f ∙ ap (λ (v : TermRows). v.sorts_room) e ∙ k ∙ ap (λ n. n + more.sorts) (sym size);
+    }
+
+-- the numbers and the list as the code has them
+module _ (b : Nodes) (goal : TermId) (order ids : List TermId) (e : ids ≡ order) (terms : term_list b order ≡ with_terms_of [] (term b goal)) (within : AreTerms b order)
+    (cells : List Cell) (more : Room) (old : TermRows) (begun : IsBegun b ids cells more old) where
+  over_order : IsBegun b order cells more old
+  over_order = subst (λ l. IsBegun b l cells more old) e begun
+
+  pub fills_none : ArePut b [] old old
+  fills_none = put_none b order cells more old over_order
+
+  module _ (i : ℕ) (now : TermRows) (put : ArePut b (take i ids) old now) where
+    so_far : ArePut b (take i order) old now
+    so_far = subst (λ l. ArePut b (take i l) old now) e put
+
+    module _ (d : TermId) (l : i < length ids) where
+      at : slice_get order i ≡ Some (slice_index_or ids i d)
+      at = ap (λ xs. slice_get xs i) (sym e) ∙ slice_get-get_or ids i d l
+
+      pub fills_next : (numbers list : List ℕ) → list ≡ numbers → AreNumbered b ids cells numbers → IsNext b order list (slice_index_or ids i d) now
+      fills_next numbers list f h =
+          next_one b order cells more old over_order i now so_far (slice_index_or ids i d) at list (record { goal = term b goal; terms = terms; within = within })
+          (subst (λ ns. AreNumbered b order cells ns) (sym f) (subst (λ xs. AreNumbered b xs cells numbers) e h))
+
+      pub fills_more : (new : TermRows) → IsPut b (slice_index_or ids i d) now new → ArePut b (take (i + 1) ids) old new
+      fills_more new h = subst (λ xs. ArePut b (take (i + 1) xs) old new) (sym e) (one_more b order cells more old over_order i now so_far (slice_index_or ids i d) at new h)
+
+    module _ (l : i ≡ length ids) where
+      filled : ArePut b order old now
+      filled = put_all b order cells more old over_order i now so_far (l ∙ ap length e)
+
+      pub fills_terms : terms_of now ≡ with_terms_of [] (term b goal)
+      fills_terms = filled.terms ∙ terms
+
+      pub fills_goal : (n : ℕ) → slice_get order n ≡ Some goal → IsTermNumber now n (term b goal)
+      fills_goal n at = goal_number b order cells more old over_order now filled goal n at
+
+      pub fills_args : TakesArgs now
+      fills_args = takes_args b order cells more old over_order now filled
+
+      pub fills_cells : (rows : List SortRow) → length cells ≤ taken_by_all rows → length now.cells ≤ taken_by_all rows
+      fills_cells rows h = few_cells b order cells more old over_order now filled rows h
+
+      pub fills_room : HasMore now more
+      fills_room = has_more b order cells more old over_order now filled
+
+pub goal_there : (b : Nodes) → ((j k : TermId) → IsTerm b j → IsTerm b k → term b j ≡ term b k → j ≡ k) → (goal : TermId) (order : List TermId) → term_list b order ≡ with_terms_of [] (term b goal) → AreTerms b order
+    → IsTerm b goal → Contains order goal
+goal_there b one goal order e within i = one_is_there b one order within goal i (subst (λ ts. Has ts (term b goal)) (sym e ∙ list_map b order) (holds_goal (term b goal)))

@@ -220,7 +220,7 @@ at_among order (j ∷ ks) (suc n) k h e = at_among order ks n k h.1 e
 
 pub has_number : (order : List TermId) (k : TermId) (r : Option ℕ) → MatchOption r (Contains order k → ⊥) (λ n. slice_get order n ≡ Some k) → Contains order k → IsSome r
 has_number order k None h c = absurd (h c)
-has_number order k (Some n) h c = tt
+has_number order k (Some n) h c = refl
 
 pub number_is : (order : List TermId) (k : TermId) (r : Option ℕ) → MatchOption r (Contains order k → ⊥) (λ n. slice_get order n ≡ Some k) → (n : ℕ) → r ≡ Some n → slice_get order n ≡ Some k
 number_is order k None h n e = cc e

@@ -39,10 +39,12 @@ pub fn fill(
     ensures sorts { IfOk result (λ g. length g.terms.cells ≤ taken_by_all bank.now.sorts) }
     ensures room { IfOk result (λ g. HasMore g.terms more) }
 {
+    bank.is_sound();
     let order = GoalTerms::of(alloc, bank, goal)?;
-    let (sorts, numbers) = sorts_of(alloc, bank, order.ids())?;
-    let mut terms = begin(alloc, bank, order.ids(), &sorts, more)?;
-    for &id in order.ids() {
+    let ids = order.ids();
+    let (sorts, numbers) = sorts_of(alloc, bank, ids)?;
+    let mut terms = begin(alloc, bank, ids, &sorts, more)?;
+    for &id in ids {
         put(alloc, bank, &order, &numbers, id, &mut terms)?;
     }
     let goal = order.number_of(goal).unwrap();

@@ -1,4 +1,4 @@
-use Rattle.std.proofs.Common.{◌∙◌, ◌≡◌, ◌<◌, List, length, take, slice_get, Some, None, Option, sym, ap, subst, arith, ℕ}
+use Rattle.std.proofs.Common.{◌∙◌, ◌≡◌, ◌<◌, List, [], ◌∷◌, length, take, slice_get, Some, None, Option, sym, ap, subst, arith, ℕ}
 use Rattle.std.proofs.lemmas.Grind.{common_steps}
 use Rattle.std.proofs.lemmas.Option.{slice_get_within}
 use Rattle.std.proofs.lemmas.List.{length-append}
@@ -17,7 +17,7 @@ pub loop-arg-smaller : goal.loop-arg-smaller
 loop-arg-smaller c =
     let w = slice_get_within (args c.args.node.now) c.len.result c.in-Some.arg (sym c.arg.ensures.is ∙ c.in-Some.is) in
     let more = ap (λ (l : List ℕ). length l) c.in_ok-push.ensures.items in
-    let one = length-append c.loop-arg.numbers.items _ in
+    let one = length-append c.loop-arg.numbers.items (c.unwrap.result ∷ []) in
     omega (arith, w, more, one, c.len.ensures)
 
 pub loop-arg-preserved : goal.loop-arg-preserved

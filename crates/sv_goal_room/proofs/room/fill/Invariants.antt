@@ -4,4 +4,4 @@ use Rattle.sv_goal_room.proofs.room.fill.Given as goal
 
 -- the first terms stand in the room
 abbrev pub invariant-loop-id : goal.invariant-loop-id
-invariant-loop-id l = ArePut l.bank (take l.id-index l.id-items) l.initial.terms l.terms
+invariant-loop-id l = ArePut l.bank (take l.id-index l.ids) l.initial.terms l.terms

@@ -23,11 +23,18 @@ returns-in_err-count c = grind (arith, common_steps)
 
 pub loop-id-preserved : goal.loop-id-preserved
 loop-id-preserved c =
-    let l : c.loop-id.id-index < length c.args.ids.now = omega (arith, c.loop-id-test.true, c.loop-id.auto.id-index-end) in
-    let at = slice_get-get_or c.args.ids.now c.loop-id.id-index (record { 0 = 0 }) l in
+    let at = slice_get-get_or c.args.ids.now c.loop-id.id-index (record { 0 = 0 }) c.loop-id-test.true in
+    let here = c.sort_of-sort.ensures.kind.within in
+    let before = c.loop-id.invariant.0 in
     elim c.if-sort-count.branch [
-      then-sort-count+in_ok-count w ↦ ?
-      | else-sort-count w ↦ ?
+      then-sort-count+in_ok-count w ↦ let e = w.count-is in let f = w.in_ok-count.ensures.1 in let g = w.if-sort-count.true in (
+        omega (arith, e, f, here),
+        have_more c.args.bank.now c.args.ids.now c.loop-id.id-index _ c.sort_of-sort.result c.loop-id.count c.if-sort-count.count at c.sort_of-sort.ensures.only (omega (arith, e, f, g)) (omega (arith, e, f)) c.loop-id.invariant.1,
+      )
+      | else-sort-count w ↦ let e = w.count-is in let g = w.if-sort-count.false in (
+        omega (arith, e, before),
+        have_more c.args.bank.now c.args.ids.now c.loop-id.id-index _ c.sort_of-sort.result c.loop-id.count c.if-sort-count.count at c.sort_of-sort.ensures.only (omega (arith, e)) (omega (arith, e, g)) c.loop-id.invariant.1,
+      )
     ]
 
 pub returns : goal.returns
