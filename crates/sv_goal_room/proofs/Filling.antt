@@ -1,15 +1,13 @@
 -- The room while the terms of a goal are put into it, one after another.
-use Rattle.std.proofs.Common.{ℕ, zero, suc, ◌+◌, ◌<◌, ◌≤◌, List, [], ◌∷◌, ◌++◌, ◌≡◌, length, map, take, slice_get, slice_index_or, Some, refl, sym, ap, ap₂, ◌∙◌, subst, arith}
+use Rattle.std.proofs.Common.{ℕ, suc, ◌+◌, ◌<◌, ◌≤◌, List, [], ◌∷◌, ◌++◌, ◌≡◌, length, map, take, slice_get, slice_index_or, Some, refl, sym, ap, ◌∙◌, subst, arith}
 use Rattle.std.specs.List.{Contains}
-use Rattle.std.proofs.lemmas.List.{length-append, length-take-le, map-append}
+use Rattle.std.proofs.lemmas.List.{length-take-le, map-append}
 use Rattle.std.proofs.lemmas.Option.{slice_get_within, slice_get-get_or}
-use Rattle.sv_term.specs.Terms.{Term, sort_of}
 use Rattle.sv_term.specs.Banks.{Nodes, SortRow, IsTerm, AreTerms, term, term_list}
-use Rattle.sv_term.specs.declared.node.SortId.{SortId}
 use Rattle.sv_term.specs.declared.node.TermId.{TermId}
-use Rattle.sv_log.specs.Logs.{nth_term, with_terms_of}
+use Rattle.sv_log.specs.Logs.{with_terms_of}
 use Rattle.sv_list_room.specs.NumberLists.{numbers_in}
-use Rattle.sv_sort_room.specs.SortCells.{nth_sort, sorts_of, IsNumber}
+use Rattle.sv_sort_room.specs.SortCells.{nth_sort, sorts_of}
 use Rattle.sv_sort_room.specs.declared.cell.Cell.{Cell}
 use Rattle.sv_sort_room.proofs.CellTrees.{sorts_length}
 use Rattle.sv_bank_sorts.specs.SortNumbering.{taken_by_all, number_at}

@@ -1,14 +1,14 @@
 -- What holds of the terms of a goal in the order of a log: each stands behind its arguments, and none stands twice.
-use Rattle.std.proofs.Common.{ℕ, zero, suc, ◌+◌, ◌<◌, ◌≤◌, Bool, true, false, cond, ◌||◌, List, [], ◌∷◌, ◌++◌, ◌≡◌, ◌⊎◌, inl, inr, length, map, take, slice_get, Option, Some, None, MatchOption, IsSome, refl, sym, ap, ap₂, ◌∙◌, subst, arith}
-use Rattle.std.specs.List.{Contains, list_any}
+use Rattle.std.proofs.Common.{ℕ, zero, suc, ◌<◌, ◌≤◌, Bool, true, false, cond, ◌||◌, List, [], ◌∷◌, ◌++◌, ◌≡◌, ◌⊎◌, inl, inr, length, map, take, slice_get, Option, Some, None, MatchOption, IsSome, refl, sym, ap, ap₂, ◌∙◌, subst, arith}
+use Rattle.std.specs.List.{Contains}
 use Rattle.std.proofs.lemmas.List.Elements.{All-nil, All-cons}
-use Rattle.sv_term.specs.Terms.{Shape, Term, App, Terms, End, More, same_term}
+use Rattle.sv_term.specs.Terms.{Term, App, Terms, End, More, same_term}
 use Rattle.sv_term.specs.Banks.{Nodes, IsTerm, AreTerms, args_by, term, term_list}
 use Rattle.sv_term.specs.Banks as banks
 use Rattle.sv_term.specs.declared.node.TermId.{TermId}
 use Rattle.sv_term.proofs.Same.{term_is, term_self, or_true}
-use Rattle.sv_term.proofs.BankLists.{of_push, within_get}
-use Rattle.sv_log.specs.Logs.{nth_term, nth_terms, with_term, with_terms_of, with_terms_of_all}
+use Rattle.sv_term.proofs.BankLists.{of_push}
+use Rattle.sv_log.specs.Logs.{nth_terms, with_term, with_terms_of, with_terms_of_all}
 use Rattle.sv_sort_room.proofs.Building.{contains_at, at_contains, front_of}
 use Rattle.sv_term_room.specs.TermRows.{AreBelow}
 use Rattle.sv_term_room.proofs.TermTrees.{nth_got}

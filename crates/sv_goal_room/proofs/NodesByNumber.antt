@@ -1,7 +1,7 @@
 -- The tree of a node is that of its shape by number over the trees of its arguments.
-use Rattle.std.proofs.Common.{ℕ, zero, suc, ◌+◌, ◌<◌, ◌≤◌, List, [], ◌∷◌, ◌++◌, ◌≡◌, length, map, take, slice_get, Some, refl, sym, ap, ◌∙◌, subst, arith}
+use Rattle.std.proofs.Common.{ℕ, zero, suc, ◌+◌, ◌<◌, ◌≤◌, List, [], ◌∷◌, ◌++◌, ◌≡◌, length, take, slice_get, Some, refl, sym, ap, ◌∙◌, arith}
 use Rattle.sv_term.specs.Sorts.{Sort}
-use Rattle.sv_term.specs.Terms.{Term, App, Terms, End, More, VarNode, ConstNode, TupNode, sort_of}
+use Rattle.sv_term.specs.Terms.{Term, App, End, More, VarNode, ConstNode, TupNode, sort_of}
 use Rattle.sv_term.specs.Banks.{Nodes, IsPlaced, args, args_by, sort, term, tree, term_by}
 use Rattle.sv_term.specs.declared.node.SortId.{SortId}
 use Rattle.sv_term.specs.declared.node.TermId.{TermId}

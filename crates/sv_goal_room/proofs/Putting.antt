@@ -1,21 +1,20 @@
 -- What a push of the next term needs, and what it leaves.
-use Rattle.std.proofs.Common.{ℕ, zero, suc, ◌+◌, ◌<◌, ◌≤◌, true, List, [], ◌∷◌, ◌++◌, ◌≡◌, length, map, take, slice_get, Some, refl, sym, ap, ◌∙◌, subst, arith}
+use Rattle.std.proofs.Common.{ℕ, suc, ◌<◌, true, List, [], ◌∷◌, ◌++◌, ◌≡◌, length, map, take, slice_get, Some, refl, sym, ap, ◌∙◌, subst, arith}
 use Rattle.std.specs.List.{Contains}
-use Rattle.sv_term.specs.Terms.{Term, App, Terms, sort_of, fits}
-use Rattle.sv_term.specs.Banks.{Nodes, IsTerm, AreTerms, IsPlaced, IsKind, args, args_by, sort, term, term_list}
+use Rattle.sv_term.specs.Terms.{App, sort_of, fits}
+use Rattle.sv_term.specs.Banks.{Nodes, IsTerm, IsPlaced, IsKind, args, args_by, sort, term, term_list}
 use Rattle.sv_term.specs.declared.node.SortId.{SortId}
 use Rattle.sv_term.specs.declared.node.TermId.{TermId}
 use Rattle.sv_term.specs.declared.node.Node.{Node}
 use Rattle.sv_log.specs.Logs.{nth_terms}
-use Rattle.sv_list_room.specs.NumberLists.{numbers_in}
-use Rattle.sv_sort_room.specs.SortCells.{nth_sort, sorts_of, IsNumber}
+use Rattle.sv_sort_room.specs.SortCells.{sorts_of, IsNumber}
 use Rattle.sv_sort_room.proofs.Building.{contains_at, at_contains}
 use Rattle.sv_bank_sorts.specs.SortNumbering.{number_at}
-use Rattle.sv_term_room.specs.TermRows.{TermRows, term_node, term_row, with_row, shape_by, args_of, terms_of, tree_of, IsNewTerm, HasRoom}
+use Rattle.sv_term_room.specs.TermRows.{TermRows, term_node, term_row, with_row, shape_by, terms_of, tree_of, IsNewTerm, HasRoom}
 use Rattle.sv_term_room.specs.declared.shape.Shape.{Shape}
 use Rattle.sv_room.specs.HeldRooms as held
-use Rattle.sv_goal_terms.proofs.WalkLaws.{has, Has, HasAll}
-use Rattle.sv_goal_room.specs.GoalFilling.{shape_for, AreAmong, ArePlaces, AreNumbered, IsOrder, IsNext, IsPut}
+use Rattle.sv_goal_terms.proofs.WalkLaws.{Has, HasAll}
+use Rattle.sv_goal_room.specs.GoalFilling.{shape_for, AreAmong, ArePlaces, IsNext, IsPut}
 use Rattle.sv_goal_room.proofs.GoalOrder.{mapped, has_at, HasArgs, IsGrown, grown_from_none, places_below, within_order, all_there, args_within}
 use Rattle.sv_goal_room.proofs.NodesByNumber.{shape_tree, node_tree, has_sort, count_args}
 

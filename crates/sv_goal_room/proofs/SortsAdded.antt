@@ -1,5 +1,5 @@
 -- Sorts that are put into a room one after another, and which sorts terms have.
-use Rattle.std.proofs.Common.{ℕ, zero, suc, ◌+◌, ◌<◌, ◌≤◌, List, [], ◌∷◌, ◌++◌, ◌≡◌, ◌⊎◌, inl, inr, length, take, drop, slice_get, Some, refl, sym, ap, ◌∙◌, subst, arith}
+use Rattle.std.proofs.Common.{ℕ, zero, suc, ◌+◌, ◌<◌, ◌≤◌, List, [], ◌∷◌, ◌++◌, ◌≡◌, ◌⊎◌, inl, inr, length, take, drop, slice_get, Some, sym, ap, ◌∙◌, subst, arith}
 use Rattle.std.specs.List.{Contains}
 use Rattle.std.proofs.lemmas.List.{length-take-le, take-append-drop}
 use Rattle.std.proofs.lemmas.Option.{slice_get_within, slice_get-get_or, get_or_from_slice_get}
@@ -8,11 +8,11 @@ use Rattle.sv_term.specs.Terms.{sort_of}
 use Rattle.sv_term.specs.Banks.{Nodes, SortRow, IsKind, term}
 use Rattle.sv_term.specs.declared.node.SortId.{SortId}
 use Rattle.sv_term.specs.declared.node.TermId.{TermId}
-use Rattle.sv_sort_room.specs.SortCells.{nth_sort, sort_by, sorts_of, HasParts, IsCell, IsNumber, with_sort, DifferBySort}
+use Rattle.sv_sort_room.specs.SortCells.{nth_sort, sort_by, sorts_of, HasParts, IsCell, with_sort, DifferBySort}
 use Rattle.sv_sort_room.specs.declared.cell.Cell.{Cell}
 use Rattle.sv_sort_room.proofs.Building.{contains_at, at_contains, pushed_at}
 use Rattle.sv_sort_room.proofs.CellTrees.{sort_front, sorts_length, with_new}
-use Rattle.sv_bank_sorts.specs.SortNumbering.{taken, taken_by_all, AreNumbers}
+use Rattle.sv_bank_sorts.specs.SortNumbering.{taken_by_all, AreNumbers}
 use Rattle.sv_term_room.specs.TermRows.{TermRows, with_cells}
 use Rattle.sv_goal_room.specs.GoalFilling.{HaveSorts, AreNumbered}
 use Rattle.sv_goal_room.proofs.GoalOrder.{at_taken, take_more, take_whole}

@@ -2,7 +2,7 @@
 use Rattle.std.specs.Prelude.{ℕ, ◌+◌, ◌<◌, ◌≤◌, List, [], ◌∷◌, ◌++◌, ◌≡◌, length, take, slice_get, Some}
 use Rattle.std.specs.List.{Contains}
 use Rattle.sv_term.specs.Terms.{Term, sort_of}
-use Rattle.sv_term.specs.Banks.{Nodes, AreTerms, IsKind, sort, term, term_list}
+use Rattle.sv_term.specs.Banks.{Nodes, AreTerms, IsKind, term, term_list}
 use Rattle.sv_term.specs.declared.node.SortId.{SortId}
 use Rattle.sv_term.specs.declared.node.TermId.{TermId}
 use Rattle.sv_term.specs.declared.node.Node.{Node}
@@ -12,7 +12,7 @@ use Rattle.sv_list_room.specs.NumberLists.{numbers_in}
 use Rattle.sv_sort_room.specs.SortCells.{sorts_of, IsNumber}
 use Rattle.sv_sort_room.specs.declared.cell.Cell.{Cell}
 use Rattle.sv_bank_sorts.specs.SortNumbering.{number_at}
-use Rattle.sv_term_room.specs.TermRows.{TermRow, TermRows, term_rows, with_row, with_cells, args_of, terms_of}
+use Rattle.sv_term_room.specs.TermRows.{TermRow, TermRows, term_rows, with_row, args_of, terms_of}
 use Rattle.sv_term_room.specs.declared.shape.Shape.{Shape}
 use Rattle.sv_term_room.specs.declared.shape.Shape.TheVariants as s
 use Rattle.sv_room.specs.HeldRooms as held

@@ -1,5 +1,5 @@
 -- Believed: how large a room of terms is beside what it holds. Hold it against the README's table of calls.
-use Rattle.std.specs.Prelude.{ℕ, ◌+◌, ◌≡◌, length}
+use Rattle.std.specs.Prelude.{◌+◌, ◌≡◌, length}
 use Rattle.sv_list_room.specs.NumberLists.{numbers_in}
 use Rattle.sv_term_room.specs.TermRows.{TermRows, args_of, terms_of}
 use Rattle.sv_room.specs.HeldRooms.{args_in}

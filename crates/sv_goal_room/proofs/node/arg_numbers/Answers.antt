@@ -1,4 +1,4 @@
-use Rattle.std.proofs.Common.{◌∙◌, ◌≡◌, ◌<◌, List, [], ◌∷◌, length, take, slice_get, Some, None, Option, sym, ap, subst, arith, ℕ}
+use Rattle.std.proofs.Common.{◌∙◌, ◌≡◌, List, [], ◌∷◌, length, take, slice_get, None, sym, ap, subst, arith, ℕ}
 use Rattle.std.proofs.lemmas.Grind.{common_steps}
 use Rattle.std.proofs.lemmas.Option.{slice_get_within}
 use Rattle.std.proofs.lemmas.List.{length-append}

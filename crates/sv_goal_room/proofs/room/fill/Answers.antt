@@ -1,4 +1,4 @@
-use Rattle.std.proofs.Common.{◌∙◌, ◌≡◌, length, sym, arith}
+use Rattle.std.proofs.Common.{◌≡◌, length, arith}
 use Rattle.std.proofs.lemmas.Grind.{common_steps}
 use Rattle.sv_goal_room.proofs.GoalOrder.{has_number, number_is}
 use Rattle.sv_goal_room.proofs.Filling.{fills_none, fills_next, fills_more, fills_terms, fills_goal, fills_args, fills_cells, fills_room, goal_there}

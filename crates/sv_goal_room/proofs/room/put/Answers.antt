@@ -1,4 +1,4 @@
-use Rattle.std.proofs.Common.{◌∙◌, List, ℕ, length, sym, subst, arith}
+use Rattle.std.proofs.Common.{List, ℕ, sym, subst, arith}
 use Rattle.std.proofs.lemmas.Grind.{common_steps}
 use Rattle.sv_term.specs.Banks.{args}
 use Rattle.sv_goal_room.specs.GoalFilling.{ArePlaces}

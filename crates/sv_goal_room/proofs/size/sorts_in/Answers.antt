@@ -1,7 +1,6 @@
-use Rattle.std.proofs.Common.{◌≡◌, ◌<◌, ◌∙◌, ap, sym, subst, length, take, arith}
+use Rattle.std.proofs.Common.{◌≡◌, ◌<◌, length, arith}
 use Rattle.std.proofs.lemmas.Grind.{common_steps}
 use Rattle.std.proofs.lemmas.Option.{slice_get-get_or}
-use Rattle.sv_goal_room.specs.GoalFilling.{HaveSorts}
 use Rattle.sv_goal_room.proofs.GoalOrder.{is_term_at}
 use Rattle.sv_goal_room.proofs.SortsAdded.{have_none, have_more, have_all}
 use Rattle.sv_goal_room.proofs.size.sorts_in.Goals as goal

@@ -1,4 +1,4 @@
-use Rattle.std.proofs.Common.{◌∙◌, ◌≡◌, ◌<◌, refl, length, sym, ap, arith}
+use Rattle.std.proofs.Common.{◌≡◌, refl, length, ap, arith}
 use Rattle.sv_sort_room.specs.SortCells.{sorts_of}
 use Rattle.sv_term_room.specs.TermRows.{TermRows}
 use Rattle.sv_goal_room.proofs.SortsAdded.{sorts_none, parts_here, size_here, one_sort_more, all_sorts, cells_through}

@@ -1,6 +1,6 @@
-use Rattle.std.proofs.Common.{◌∙◌, ◌≡◌, length, ap, sym, arith}
+use Rattle.std.proofs.Common.{arith}
 use Rattle.std.proofs.lemmas.Grind.{common_steps}
-use Rattle.sv_goal_room.proofs.SortsAdded.{have_numbers, taken_by_front}
+use Rattle.sv_goal_room.proofs.SortsAdded.{taken_by_front}
 use Rattle.sv_goal_room.proofs.sorts.sorts_of.Goals as goal
 
 pub returns-clause-size : goal.returns-clause-size
