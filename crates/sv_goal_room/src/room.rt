@@ -26,12 +26,7 @@ pub struct GoalRoom {
 
 /// The terms of a goal in the order of a log, with room for as many more terms, arguments and sorts as `more` says; what it says beyond these isn't looked at.
 /// It takes all memory that the room ever needs.
-pub fn fill(
-    alloc: Global,
-    bank: &Bank,
-    goal: TermId,
-    more: Room,
-) -> Result<GoalRoom, NoMemory>
+pub fn fill(alloc: Global, bank: &Bank, goal: TermId, more: Room) -> Result<GoalRoom, NoMemory>
     requires { IsTerm bank.now goal }
     ensures terms { IfOk result (λ g. terms_of g.terms ≡ with_terms_of [] (term bank.now goal)) }
     ensures goal { IfOk result (λ g. IsTermNumber g.terms g.goal (term bank.now goal)) }

@@ -26,7 +26,7 @@ loop-id-preserved c =
     let here = c.sort_of-sort.ensures.kind.within in
     let before = c.loop-id.invariant.0 in
     elim c.if-sort-count.branch [
-      then-sort-count+in_ok-count w ↦ let e = w.count-is in let f = w.in_ok-count.ensures.1 in let g = w.if-sort-count.true in (
+      | then-sort-count+in_ok-count w ↦ let e = w.count-is in let f = w.in_ok-count.ensures.1 in let g = w.if-sort-count.true in (
         omega (arith, e, f, here),
         have_more c.args.bank.now c.args.ids.now c.loop-id.id-index _ c.sort_of-sort.result c.loop-id.count c.if-sort-count.count at c.sort_of-sort.ensures.only (omega (arith, e, f, g)) (omega (arith, e, f)) c.loop-id.invariant.1,
       )
