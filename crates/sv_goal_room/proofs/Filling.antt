@@ -18,7 +18,7 @@ use Rattle.sv_room.specs.HeldRooms.{args_in}
 use Rattle.sv_room.specs.declared.room.Room.{Room}
 use Rattle.sv_goal_terms.proofs.WalkLaws.{Has}
 use Rattle.sv_goal_room.specs.GoalRooms.{HasMore, TakesArgs}
-use Rattle.sv_goal_room.specs.GoalFilling.{AreNumbered, IsOrder, IsBegun, IsNext, IsPut, ArePut}
+use Rattle.sv_goal_room.specs.GoalFilling.{AreNumbered, IsOrder, IsFilled, IsBegun, IsNext, IsPut, ArePut}
 use Rattle.sv_goal_room.proofs.GoalOrder.{mapped, mapped_take, take_more, take_whole, holds_goal, one_is_there}
 use Rattle.sv_goal_room.proofs.NodesByNumber.{args_push, args_until}
 use Rattle.sv_goal_room.proofs.Putting.{list_map}
@@ -164,15 +164,6 @@ module _ (b : Nodes) (order : List TermId) (cells : List Cell) (more : Room) (ol
     all_count : length now.rows ≡ length order
     all_count = let a = trees_length (sorts_of now.cells) now.rows in let e = ap length put.terms in let n = list_length b order in omega (arith, a, e, n)
 
-    pub goal_number : (goal : TermId) (n : ℕ) → slice_get order n ≡ Some goal → IsTermNumber now n (term b goal)
-    goal_number goal n e =
-        let l = slice_get_within order n goal e in
-        let c = all_count in
-        record {
-          within = omega (arith, l, c);
-          is = nth_got (terms_of now) n (term b goal) (ap (λ ts. slice_get ts n) put.terms ∙ list_at b order n goal e);
-        }
-
     pub takes_args : TakesArgs now
     takes_args = put.args ∙ ap args_in (sym put.terms)
 
@@ -211,8 +202,7 @@ begins b order cells more mid new room args sorts e f kinds i j k =
     }
 
 -- the numbers and the list as the code has them
-module _ (b : Nodes) (goal : TermId) (order ids : List TermId) (e : ids ≡ order) (terms : term_list b order ≡ with_terms_of [] (term b goal)) (within : AreTerms b order)
-    (cells : List Cell) (more : Room) (old : TermRows) (begun : IsBegun b ids cells more old) where
+module _ (b : Nodes) (order ids : List TermId) (e : ids ≡ order) (o : IsOrder b order) (cells : List Cell) (more : Room) (old : TermRows) (begun : IsBegun b ids cells more old) where
   over_order : IsBegun b order cells more old
   over_order = subst (λ l. IsBegun b l cells more old) e begun
 
@@ -229,31 +219,33 @@ module _ (b : Nodes) (goal : TermId) (order ids : List TermId) (e : ids ≡ orde
 
       pub fills_next : (numbers list : List ℕ) → list ≡ numbers → AreNumbered b ids cells numbers → IsNext b order list (slice_index_or ids i d) now
       fills_next numbers list f h =
-          next_one b order cells more old over_order i now so_far (slice_index_or ids i d) at list (record { goal = term b goal; terms = terms; within = within })
+          next_one b order cells more old over_order i now so_far (slice_index_or ids i d) at list o
           (subst (λ ns. AreNumbered b order cells ns) (sym f) (subst (λ xs. AreNumbered b xs cells numbers) e h))
 
       pub fills_more : (new : TermRows) → IsPut b (slice_index_or ids i d) now new → ArePut b (take (i + 1) ids) old new
       fills_more new h = subst (λ xs. ArePut b (take (i + 1) xs) old new) (sym e) (one_more b order cells more old over_order i now so_far (slice_index_or ids i d) at new h)
 
-    module _ (l : i ≡ length ids) where
-      filled : ArePut b order old now
-      filled = put_all b order cells more old over_order i now so_far (l ∙ ap length e)
-
-      pub fills_terms : terms_of now ≡ with_terms_of [] (term b goal)
-      fills_terms = filled.terms ∙ terms
-
-      pub fills_goal : (n : ℕ) → slice_get order n ≡ Some goal → IsTermNumber now n (term b goal)
-      fills_goal n at = goal_number b order cells more old over_order now filled goal n at
-
-      pub fills_args : TakesArgs now
-      fills_args = takes_args b order cells more old over_order now filled
-
-      pub fills_cells : (rows : List SortRow) → length cells ≤ taken_by_all rows → length now.cells ≤ taken_by_all rows
-      fills_cells rows h = few_cells b order cells more old over_order now filled rows h
-
-      pub fills_room : HasMore now more
-      fills_room = has_more b order cells more old over_order now filled
+    pub fills_all : i ≡ length ids → length cells ≤ taken_by_all b.sorts → IsFilled b order more now
+    fills_all l few =
+        let all = put_all b order cells more old over_order i now so_far (l ∙ ap length e) in
+        record {
+          terms = all.terms;
+          args = takes_args b order cells more old over_order now all;
+          sorts = few_cells b order cells more old over_order now all b.sorts few;
+          room = has_more b order cells more old over_order now all;
+        }
 
 pub goal_there : (b : Nodes) → ((j k : TermId) → IsTerm b j → IsTerm b k → term b j ≡ term b k → j ≡ k) → (goal : TermId) (order : List TermId) → term_list b order ≡ with_terms_of [] (term b goal) → AreTerms b order
     → IsTerm b goal → Contains order goal
 goal_there b one goal order e within i = one_is_there b one order within goal i (subst (λ ts. Has ts (term b goal)) (sym e ∙ list_map b order) (holds_goal (term b goal)))
+
+pub goal_number : (b : Nodes) (order : List TermId) (more : Room) (v : TermRows) → IsFilled b order more v → (goal : TermId) (n : ℕ) → slice_get order n ≡ Some goal → IsTermNumber v n (term b goal)
+goal_number b order more v h goal n e =
+    let l = slice_get_within order n goal e in
+    let a = trees_length (sorts_of v.cells) v.rows in
+    let c = ap length h.terms in
+    let m = list_length b order in
+    record {
+      within = omega (arith, l, a, c, m);
+      is = nth_got (terms_of v) n (term b goal) (ap (λ ts. slice_get ts n) h.terms ∙ list_at b order n goal e);
+    }

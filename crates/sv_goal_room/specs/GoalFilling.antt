@@ -11,13 +11,14 @@ use Rattle.sv_log.specs.Logs.{with_terms_of}
 use Rattle.sv_list_room.specs.NumberLists.{numbers_in}
 use Rattle.sv_sort_room.specs.SortCells.{sorts_of, IsNumber}
 use Rattle.sv_sort_room.specs.declared.cell.Cell.{Cell}
-use Rattle.sv_bank_sorts.specs.SortNumbering.{number_at}
+use Rattle.sv_bank_sorts.specs.SortNumbering.{number_at, taken_by_all}
 use Rattle.sv_term_room.specs.TermRows.{TermRow, TermRows, term_rows, with_row, args_of, terms_of}
 use Rattle.sv_term_room.specs.declared.shape.Shape.{Shape}
 use Rattle.sv_term_room.specs.declared.shape.Shape.TheVariants as s
 use Rattle.sv_room.specs.HeldRooms as held
 use Rattle.sv_room.specs.HeldRooms.{args_in}
 use Rattle.sv_room.specs.declared.room.Room.{Room}
+use Rattle.sv_goal_room.specs.GoalRooms.{HasMore, TakesArgs}
 
 -- ---- a node by number
 
@@ -107,3 +108,10 @@ pub record ArePut (b : Nodes) (ks : List TermId) (old new : TermRows) : Type 0 w
   pub terms : terms_of new ≡ term_list b ks
   pub args : numbers_in (args_of new.rows) ≡ args_in (term_list b ks)
   pub rest : new ≡ term_rows new.rows old.cells old.room old.args_room old.sorts_room
+
+-- the room holds these terms, and has exactly as much further room
+pub record IsFilled (b : Nodes) (order : List TermId) (more : Room) (v : TermRows) : Type 0 where
+  pub terms : terms_of v ≡ term_list b order
+  pub args : TakesArgs v
+  pub sorts : length v.cells ≤ taken_by_all b.sorts
+  pub room : HasMore v more

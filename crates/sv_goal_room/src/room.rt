@@ -4,7 +4,7 @@ ghost use Rattle.sv_log.specs.Logs.{with_terms_of};
 ghost use Rattle.sv_bank_sorts.specs.SortNumbering.{taken_by_all};
 ghost use Rattle.sv_term_room.specs.TermRows.{terms_of, IsTermNumber};
 ghost use Rattle.sv_goal_room.specs.GoalRooms.{HasMore, TakesArgs};
-ghost use Rattle.sv_goal_room.specs.GoalFilling.{IsBegun, IsNext, IsPut, ArePut};
+ghost use Rattle.sv_goal_room.specs.GoalFilling.{IsOrder, IsFilled, IsBegun, IsNext, IsPut};
 
 use crate::node::{arg_numbers, shape_of};
 use crate::size::args_in;
@@ -36,14 +36,23 @@ pub fn fill(alloc: Global, bank: &Bank, goal: TermId, more: Room) -> Result<Goal
 {
     bank.is_sound();
     let order = GoalTerms::of(alloc, bank, goal)?;
+    let terms = filled(alloc, bank, &order, more)?;
+    let goal = order.number_of(goal).unwrap();
+    Ok(GoalRoom { terms, goal })
+}
+
+/// The terms in a room with further room.
+fn filled(alloc: Global, bank: &Bank, order: &GoalTerms, more: Room) -> Result<TermRoom, NoMemory>
+    requires { IsOrder bank.now order.now }
+    ensures { IfOk result (IsFilled bank.now order.now more) }
+{
     let ids = order.ids();
     let (sorts, numbers) = sorts_of(alloc, bank, ids)?;
     let mut terms = begin(alloc, bank, ids, &sorts, more)?;
     for &id in ids {
-        put(alloc, bank, &order, &numbers, id, &mut terms)?;
+        put(alloc, bank, order, &numbers, id, &mut terms)?;
     }
-    let goal = order.number_of(goal).unwrap();
-    Ok(GoalRoom { terms, goal })
+    Ok(terms)
 }
 
 /// The sorts without the terms.
