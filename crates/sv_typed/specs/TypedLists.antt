@@ -7,9 +7,12 @@ use Rattle.sv_text_type.specs.declared.text_type.TypeId.{TypeId}
 use Rattle.sv_typed.specs.declared.typed.TypedCallable.{TypedCallable}
 use Rattle.sv_typed.specs.declared.typed.TypedMember.{TypedMember}
 
--- as many, and each agrees with the other's at its place
+abbrev pub all_pairs : (TypedMember → TypedMember → Bool) → List TypedMember → List TypedMember → Bool
+all_pairs test xs ys = list_all (λ p. test p.0 p.1) (zip xs ys)
+
+-- there are as many, and each agrees with the other's at its place
 abbrev pub agree : (TypedMember → TypedMember → Bool) → List TypedMember → List TypedMember → Bool
-agree test xs ys = length xs == length ys && list_all (λ p. test p.0 p.1) (zip xs ys)
+agree test xs ys = length xs == length ys && all_pairs test xs ys
 
 -- ---- types: two are one where their numbers are one, and an unknown one is no other's
 
@@ -19,9 +22,6 @@ same_number _ _ = false
 
 abbrev pub same_type : TypedMember → TypedMember → Bool
 same_type a b = same_number a.of_type b.of_type
-
-abbrev pub same_types : List TypedMember → List TypedMember → Bool
-same_types = agree same_type
 
 -- ---- locations
 
@@ -39,16 +39,13 @@ same_place _ _ = false
 abbrev pub same_location : TypedMember → TypedMember → Bool
 same_location a b = same_place a.location b.location
 
-abbrev pub same_members_locations : List TypedMember → List TypedMember → Bool
-same_members_locations = agree same_location
-
 -- ---- of two functions
 
 abbrev pub same_params : TypedCallable → TypedCallable → Bool
-same_params a b = same_types a.params b.params
+same_params a b = agree same_type a.params b.params
 
 abbrev pub same_results : TypedCallable → TypedCallable → Bool
-same_results a b = same_types a.results b.results
+same_results a b = agree same_type a.results b.results
 
 abbrev pub same_locations : TypedCallable → TypedCallable → Bool
-same_locations a b = same_members_locations a.params b.params && same_members_locations a.results b.results
+same_locations a b = agree same_location a.params b.params && agree same_location a.results b.results

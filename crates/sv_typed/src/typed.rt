@@ -2,7 +2,7 @@
 #![tactic(auto)]
 
 ghost use Rattle.std.specs.Prelude.{◌≡◌};
-ghost use Rattle.sv_typed.specs.TypedLists.{same_location, same_locations, same_members_locations, same_params, same_results, same_type, same_types, same_where};
+ghost use Rattle.sv_typed.specs.TypedLists.{agree, all_pairs, same_location, same_locations, same_params, same_results, same_type, same_where};
 
 use sqlite_items::Items;
 use sv_ast::WhereKind;
@@ -40,10 +40,17 @@ fn same_type(a: &TypedMember, b: &TypedMember) -> bool
     }
 }
 
-fn same_types(a: &[TypedMember], b: &[TypedMember]) -> bool
-    ensures { result ≡ same_types a.now b.now }
+/// Whether each has the type of the other's at its place.
+fn pairs_have_one_type(a: &[TypedMember], b: &[TypedMember]) -> bool
+    ensures { result ≡ all_pairs same_type a.now b.now }
 {
-    a.len() == b.len() && a.iter().zip(b.iter()).all(|(x, y)| same_type(x, y))
+    a.iter().zip(b.iter()).all(|(x, y)| same_type(x, y))
+}
+
+fn same_types(a: &[TypedMember], b: &[TypedMember]) -> bool
+    ensures { result ≡ agree same_type a.now b.now }
+{
+    a.len() == b.len() && pairs_have_one_type(a, b)
 }
 
 fn same_where(a: WhereKind, b: WhereKind) -> bool
@@ -68,10 +75,17 @@ fn same_location(a: &TypedMember, b: &TypedMember) -> bool
     }
 }
 
-fn same_members_locations(a: &[TypedMember], b: &[TypedMember]) -> bool
-    ensures { result ≡ same_members_locations a.now b.now }
+/// Whether each lies where the other's at its place does.
+fn pairs_have_one_location(a: &[TypedMember], b: &[TypedMember]) -> bool
+    ensures { result ≡ all_pairs same_location a.now b.now }
 {
-    a.len() == b.len() && a.iter().zip(b.iter()).all(|(x, y)| same_location(x, y))
+    a.iter().zip(b.iter()).all(|(x, y)| same_location(x, y))
+}
+
+fn same_places(a: &[TypedMember], b: &[TypedMember]) -> bool
+    ensures { result ≡ agree same_location a.now b.now }
+{
+    a.len() == b.len() && pairs_have_one_location(a, b)
 }
 
 /// Whether they have parameters of the same types, in order.
@@ -92,6 +106,6 @@ pub fn same_results(a: &TypedCallable, b: &TypedCallable) -> bool
 pub fn same_locations(a: &TypedCallable, b: &TypedCallable) -> bool
     ensures { result ≡ same_locations a.now b.now }
 {
-    same_members_locations(a.params.as_slice(), b.params.as_slice())
-        && same_members_locations(a.results.as_slice(), b.results.as_slice())
+    same_places(a.params.as_slice(), b.params.as_slice())
+        && same_places(a.results.as_slice(), b.results.as_slice())
 }
