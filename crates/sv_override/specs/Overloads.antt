@@ -1,5 +1,5 @@
 -- Believed: when a function breaks the rule on overloads. Hold it against the rule Overload of docs/language.md.
-use Rattle.std.specs.Prelude.{ℕ, ◌&&◌, not, Bool, false, Option, Some, None, List, slice_get}
+use Rattle.std.specs.Prelude.{ℕ, ◌&&◌, not, Bool, false, Option, Some, List, slice_get}
 use Rattle.std.specs.List.{list_any}
 use Rattle.sv_decl.specs.declared.data.Declaration.{Declaration}
 use Rattle.sv_decl.specs.declared.data.DeclaredContract.{DeclaredContract}
