@@ -1,3 +1,2 @@
-pub mod Rivals
 pub mod Overrides
 pub mod Overloads

@@ -5,7 +5,7 @@ use Rattle.sv_decl.specs.declared.data.Declaration.{Declaration}
 use Rattle.sv_decl.specs.declared.data.DeclaredContract.{DeclaredContract}
 use Rattle.sv_typed.specs.declared.typed.TypedCallable.{TypedCallable}
 use Rattle.sv_typed.specs.declared.typed.TypedContract.{TypedContract}
-use Rattle.sv_override.specs.Rivals.{is_function, is_rival, have_same_params, stands_before, declarations_of, types_of, typed_declarations, or_empty, has}
+use Rattle.sv_rival.specs.Rivals.{is_function, is_rival, have_same_params, stands_before, declarations_of, types_of, typed_declarations, or_empty, has}
 
 -- g is an earlier function of the name with other parameters
 abbrev pub is_overload : Declaration → Option TypedCallable → Declaration × Option TypedCallable → Bool

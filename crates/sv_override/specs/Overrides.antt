@@ -2,44 +2,16 @@
 use Rattle.std.specs.Prelude.{ℕ, ◌==◌, ◌&&◌, ◌||◌, not, Bool, true, false, Option, Some, None, List, [], reverse, slice_get, find}
 use Rattle.std.specs.List.{list_any}
 use Rattle.sv_decl.specs.declared.data.Declaration.{Declaration}
-use Rattle.sv_decl.specs.declared.data.DeclarationKind.{DeclarationKind}
-use Rattle.sv_decl.specs.declared.data.DeclarationKind.TheVariants as kind
 use Rattle.sv_decl.specs.declared.data.DeclaredContract.{DeclaredContract}
 use Rattle.sv_decl.specs.declared.data.Standing.{Standing}
 use Rattle.sv_decl.specs.declared.data.Standing.TheVariants as standing
-use Rattle.sv_decl.specs.declared.data.Word.{Word}
-use Rattle.sv_decl.specs.declared.data.Word.TheVariants as word
 use Rattle.sv_typed.specs.declared.typed.TypedCallable.{TypedCallable}
 use Rattle.sv_typed.specs.declared.typed.TypedContract.{TypedContract}
 use Rattle.sv_typed.specs.TypedLists.{same_params, same_results, same_locations}
-use Rattle.sv_override.specs.Rivals.{is_function, is_rival, same_name, have_same_params, stands_before, declarations_of, types_of, typed_declarations, has_rival, or_empty, line_of, has, some_other}
+use Rattle.sv_rival.specs.RivalWords.{is_external, is_override, is_virtual}
+use Rattle.sv_rival.specs.Rivals.{is_function, is_rival, same_name, have_same_params, stands_before, declarations_of, types_of, typed_declarations, has_rival, or_empty, line_of, has, some_other}
 
--- ---- words
-
-abbrev pub words_of : DeclarationKind → List Word
-words_of (kind.Callable s) = s.words
-words_of _ = []
-
-abbrev pub is_virtual_word : Word → Bool
-is_virtual_word word.Virtual = true
-is_virtual_word _ = false
-
-abbrev pub is_override_word : Word → Bool
-is_override_word word.Override = true
-is_override_word _ = false
-
-abbrev pub is_external_word : Word → Bool
-is_external_word word.External = true
-is_external_word _ = false
-
-abbrev pub is_virtual : Declaration → Bool
-is_virtual f = list_any is_virtual_word (words_of f.kind)
-
-abbrev pub is_override : Declaration → Bool
-is_override f = list_any is_override_word (words_of f.kind)
-
-abbrev pub is_external : Declaration → Bool
-is_external f = list_any is_external_word (words_of f.kind)
+-- ---- interfaces
 
 abbrev pub is_interface_standing : Standing → Bool
 is_interface_standing standing.Interface = true

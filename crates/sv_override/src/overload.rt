@@ -4,15 +4,14 @@
 ghost use Rattle.std.specs.Prelude.{◌≡◌, slice_get};
 ghost use Rattle.std.specs.Option.{option_copied};
 ghost use Rattle.std.specs.List.{list_any};
-ghost use Rattle.sv_override.specs.Rivals.{typed_declarations};
 ghost use Rattle.sv_override.specs.Overloads.{breaks_overload, is_overload, overloads, overloads_along, overloads_in, overloads_somewhere, overloads_within};
 
-use crate::rival::{
+use sqlite_items::Items;
+use sv_decl::{Declaration, DeclaredContract};
+use sv_rival::{
     declarations_of, has, have_same_params, is_function, is_rival, or_empty, stands_before,
     types_of,
 };
-use sqlite_items::Items;
-use sv_decl::{Declaration, DeclaredContract};
 use sv_typed::{TypedCallable, TypedContract};
 
 /// Whether `g` is an earlier function of the name with other parameters.

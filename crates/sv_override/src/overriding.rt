@@ -4,61 +4,15 @@
 ghost use Rattle.std.specs.Prelude.{◌≡◌, slice_get};
 ghost use Rattle.std.specs.Option.{option_copied};
 ghost use Rattle.std.specs.List.{list_any};
-ghost use Rattle.sv_override.specs.Rivals.{typed_declarations};
-ghost use Rattle.sv_override.specs.Overrides.{agrees, are_apart, breaks, breaks_override, clashes, clashes_along, clashes_beside, clashes_in, clashes_somewhere, has_other, heir, is_external, is_external_word, is_heir_apart, is_interface, is_interface_standing, is_lone_interface, is_override, is_override_word, is_refused, is_virtual, is_virtual_word, lacks_override, needs_override, refuses, refuses_in, words_of};
+ghost use Rattle.sv_override.specs.Overrides.{agrees, are_apart, breaks, breaks_override, clashes, clashes_along, clashes_beside, clashes_in, clashes_somewhere, has_other, heir, is_heir_apart, is_interface, is_interface_standing, is_lone_interface, is_refused, lacks_override, needs_override, refuses, refuses_in};
 
-use crate::rival::{
-    declarations_of, has, has_rival, have_same_params, is_function, is_rival, line_of, or_empty,
-    stands_before, types_of,
-};
 use sqlite_items::Items;
-use sv_decl::{Declaration, DeclarationKind, DeclaredContract, Standing, Word};
+use sv_decl::{Declaration, DeclaredContract, Standing};
+use sv_rival::{
+    declarations_of, has, has_rival, have_same_params, is_external, is_function, is_override,
+    is_rival, is_virtual, line_of, or_empty, stands_before, types_of,
+};
 use sv_typed::{TypedCallable, TypedContract, same_locations, same_params, same_results};
-
-fn words_of(k: &DeclarationKind) -> &[Word]
-    ensures { result.now ≡ words_of k.now }
-{
-    match k {
-        DeclarationKind::Callable(s) => s.words.as_slice(),
-        _ => &[],
-    }
-}
-
-fn is_virtual_word(w: Word) -> bool
-    ensures { result ≡ is_virtual_word w }
-{
-    matches!(w, Word::Virtual)
-}
-
-fn is_override_word(w: Word) -> bool
-    ensures { result ≡ is_override_word w }
-{
-    matches!(w, Word::Override)
-}
-
-fn is_external_word(w: Word) -> bool
-    ensures { result ≡ is_external_word w }
-{
-    matches!(w, Word::External)
-}
-
-fn is_virtual(f: &Declaration) -> bool
-    ensures { result ≡ is_virtual f.now }
-{
-    words_of(&f.kind).iter().any(|w| is_virtual_word(*w))
-}
-
-fn is_override(f: &Declaration) -> bool
-    ensures { result ≡ is_override f.now }
-{
-    words_of(&f.kind).iter().any(|w| is_override_word(*w))
-}
-
-fn is_external(f: &Declaration) -> bool
-    ensures { result ≡ is_external f.now }
-{
-    words_of(&f.kind).iter().any(|w| is_external_word(*w))
-}
 
 fn is_interface_standing(standing: Standing) -> bool
     ensures { result ≡ is_interface_standing standing }

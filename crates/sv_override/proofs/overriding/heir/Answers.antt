@@ -1,7 +1,7 @@
 use Rattle.std.proofs.Common.{◌∙◌, rules}
 use Rattle.std.proofs.lemmas.Iterator.Adapters.{YieldsList-from_rev_slice}
 use Rattle.std.proofs.lemmas.Iterator.Search.{find_from_yields_List}
-use Rattle.sv_override.specs.Rivals.{has_rival}
+use Rattle.sv_rival.specs.Rivals.{has_rival}
 use Rattle.sv_override.proofs.overriding.heir.Goals as goal
 
 pub returns : goal.returns
