@@ -1,5 +1,5 @@
 -- Believed: when a member of an enum, a parameter, a result or a field has a name that stands before it. Hold it against the rule Duplicate of docs/language.md: parameters and results have one scope.
-use Rattle.std.specs.Prelude.{ℕ, ◌==◌, ◌<◌, ◌||◌, nat_lt, Bool, false, Option, Some, None, List, [], ◌∷◌, slice_get, take, count_by}
+use Rattle.std.specs.Prelude.{ℕ, ◌==◌, ◌||◌, Bool, false, Option, Some, None, List, [], ◌∷◌, slice_get, take}
 use Rattle.std.specs.List.{list_any}
 use Rattle.sv_decl.specs.declared.data.DeclarationKind.{DeclarationKind}
 use Rattle.sv_decl.specs.declared.data.DeclarationKind.TheVariants as kind

@@ -1,5 +1,5 @@
 -- Believed: when a declaration of a contract, or of the text outside of contracts, has a name that its scope has already. Hold it against the rule Duplicate of docs/language.md and Solidity's documentation, "Scoping and Declarations".
-use Rattle.std.specs.Prelude.{ℕ, ◌==◌, ◌&&◌, ◌||◌, nat_lt, not, Bool, true, false, Option, Some, None, List, slice_get}
+use Rattle.std.specs.Prelude.{ℕ, ◌&&◌, ◌||◌, nat_lt, not, Bool, true, false, Option, Some, None, List, slice_get}
 use Rattle.std.specs.List.{list_any}
 use Rattle.sv_decl.specs.declared.data.Callable.{Callable}
 use Rattle.sv_decl.specs.declared.data.Callable.TheVariants as callable

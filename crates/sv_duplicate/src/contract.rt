@@ -1,9 +1,7 @@
 //! Declarations of contracts.
 #![tactic(auto)]
 
-ghost use Rattle.std.specs.Prelude.{◌≡◌, slice_get};
-ghost use Rattle.std.specs.Option.{option_copied};
-ghost use Rattle.std.specs.List.{list_any};
+ghost use Rattle.std.specs.Prelude.{◌≡◌};
 ghost use Rattle.sv_duplicate.specs.Duplicates.{are_alike, breaks, breaks_duplicate, is_constructor, is_constructor_sort, repeats, repeats_in};
 
 use crate::line::is_met;
@@ -89,7 +87,10 @@ pub fn breaks_duplicate(
 ) -> bool
     ensures { result ≡ breaks_duplicate contracts.now typed.now lines.now c at }
 {
-    match (declarations_of(contracts, c).get(at), types_of(typed, c).get(at)) {
+    match (
+        declarations_of(contracts, c).get(at),
+        types_of(typed, c).get(at),
+    ) {
         (Some(f), Some(types)) => breaks(contracts, typed, lines, c, f, types),
         _ => false,
     }

@@ -2,7 +2,6 @@
 #![tactic(auto)]
 
 ghost use Rattle.std.specs.Prelude.{◌≡◌};
-ghost use Rattle.std.specs.List.{list_any};
 ghost use Rattle.sv_duplicate.specs.Duplicates.{is_met, is_public_variable, is_request, is_variable_kind, lacks_body, meets, meets_along, meets_beside, meets_in, meets_somewhere, stands_for};
 
 use sqlite_items::Items;

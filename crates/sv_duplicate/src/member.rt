@@ -1,9 +1,8 @@
 //! Members of enums, parameters, results and fields.
 #![tactic(auto)]
 
-ghost use Rattle.std.specs.Prelude.{◌≡◌, slice_get, take};
-ghost use Rattle.std.specs.List.{list_any};
-ghost use Rattle.sv_duplicate.specs.DuplicateMembers.{has_member_twice, has_name, has_twice, names_one, repeats_among, repeats_member};
+ghost use Rattle.std.specs.Prelude.{◌≡◌};
+ghost use Rattle.sv_duplicate.specs.DuplicateMembers.{has_member_twice, has_name, has_twice, names_one, repeats_member};
 
 use sv_decl::{DeclarationKind, Member};
 use sv_rival::same_name;

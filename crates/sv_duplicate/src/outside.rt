@@ -2,7 +2,6 @@
 #![tactic(auto)]
 
 ghost use Rattle.std.specs.Prelude.{◌≡◌, slice_get};
-ghost use Rattle.std.specs.List.{list_any};
 ghost use Rattle.sv_duplicate.specs.Duplicates.{is_earlier_contract, is_earlier_declaration, is_taken, repeats_contract, repeats_outside, taken_by_contract, taken_by_declaration};
 
 use crate::member::has_member_twice;
@@ -25,9 +24,7 @@ fn is_earlier_declaration(name: &Option<Name>, byte: u32, g: &Declaration) -> bo
 fn taken_by_contract(contracts: &[DeclaredContract], name: &Option<Name>, byte: u32) -> bool
     ensures { result ≡ taken_by_contract contracts.now name.now byte }
 {
-    contracts
-        .iter()
-        .any(|d| is_earlier_contract(name, byte, d))
+    contracts.iter().any(|d| is_earlier_contract(name, byte, d))
 }
 
 fn taken_by_declaration(outside: &[Declaration], name: &Option<Name>, byte: u32) -> bool

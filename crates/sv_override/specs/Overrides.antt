@@ -1,5 +1,5 @@
 -- Believed: when a function, a modifier, `receive` or `fallback` breaks the rule on overrides. Hold it against the rule Override of docs/language.md and Solidity's documentation, "Function Overriding".
-use Rattle.std.specs.Prelude.{ℕ, ◌==◌, ◌&&◌, ◌||◌, not, Bool, true, false, Option, Some, None, List, [], reverse, slice_get, find}
+use Rattle.std.specs.Prelude.{ℕ, ◌==◌, ◌&&◌, ◌||◌, not, Bool, true, false, Option, Some, None, List, reverse, slice_get, find}
 use Rattle.std.specs.List.{list_any}
 use Rattle.sv_decl.specs.declared.data.Declaration.{Declaration}
 use Rattle.sv_decl.specs.declared.data.DeclaredContract.{DeclaredContract}

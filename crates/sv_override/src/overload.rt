@@ -1,9 +1,7 @@
 //! The rule on overloads.
 #![tactic(auto)]
 
-ghost use Rattle.std.specs.Prelude.{◌≡◌, slice_get};
-ghost use Rattle.std.specs.Option.{option_copied};
-ghost use Rattle.std.specs.List.{list_any};
+ghost use Rattle.std.specs.Prelude.{◌≡◌};
 ghost use Rattle.sv_override.specs.Overloads.{breaks_overload, is_overload, overloads, overloads_along, overloads_in, overloads_somewhere, overloads_within};
 
 use sqlite_items::Items;
@@ -80,9 +78,7 @@ fn overloads_somewhere(
 ) -> bool
     ensures { result ≡ overloads_somewhere contracts.now typed.now lines.now f.now types.now c }
 {
-    lines
-        .iter()
-        .any(|line| overloads_along(contracts, typed, f, types, c, or_empty(line)))
+    lines.iter().any(|line| overloads_along(contracts, typed, f, types, c, or_empty(line)))
 }
 
 fn overloads(
@@ -109,7 +105,10 @@ pub fn breaks_overload(
 ) -> bool
     ensures { result ≡ breaks_overload contracts.now typed.now lines.now c at }
 {
-    match (declarations_of(contracts, c).get(at), types_of(typed, c).get(at)) {
+    match (
+        declarations_of(contracts, c).get(at),
+        types_of(typed, c).get(at),
+    ) {
         (Some(f), Some(types)) => overloads(contracts, typed, lines, c, f, types),
         _ => false,
     }

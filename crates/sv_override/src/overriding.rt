@@ -1,9 +1,7 @@
 //! The rule on overrides.
 #![tactic(auto)]
 
-ghost use Rattle.std.specs.Prelude.{◌≡◌, slice_get};
-ghost use Rattle.std.specs.Option.{option_copied};
-ghost use Rattle.std.specs.List.{list_any};
+ghost use Rattle.std.specs.Prelude.{◌≡◌};
 ghost use Rattle.sv_override.specs.Overrides.{agrees, are_apart, breaks, breaks_override, clashes, clashes_along, clashes_beside, clashes_in, clashes_somewhere, has_other, heir, is_heir_apart, is_interface, is_interface_standing, is_lone_interface, is_refused, lacks_override, needs_override, refuses, refuses_in};
 
 use sqlite_items::Items;
@@ -55,8 +53,7 @@ fn needs_override(contracts: &[DeclaredContract], f: &Declaration, line: &[u32],
     ensures { result ≡ needs_override contracts.now f.now line.now c }
 {
     line.iter().any(|d| {
-        *d != c
-            && (has_rival(contracts, f, *d) && !is_lone_interface(contracts, f, line, c, *d))
+        *d != c && (has_rival(contracts, f, *d) && !is_lone_interface(contracts, f, line, c, *d))
     })
 }
 
@@ -88,8 +85,7 @@ fn refuses(
 ) -> bool
     ensures { result ≡ refuses by_contract f.now types.now (g.now, others.now) }
 {
-    is_rival(f, g)
-        && !((by_contract || is_virtual(g)) && agrees(is_external(g), types, others))
+    is_rival(f, g) && !((by_contract || is_virtual(g)) && agrees(is_external(g), types, others))
 }
 
 /// Whether contract `d` has one that `f` can't override.
@@ -158,8 +154,7 @@ fn clashes(
 ) -> bool
     ensures { result ≡ clashes f.now types.now (g.now, others.now) }
 {
-    is_rival(f, g)
-        && (stands_before(g, f) && (!is_function(f) || have_same_params(types, others)))
+    is_rival(f, g) && (stands_before(g, f) && (!is_function(f) || have_same_params(types, others)))
 }
 
 /// Whether contract `d` has such a one.
@@ -223,9 +218,7 @@ fn clashes_somewhere(
 ) -> bool
     ensures { result ≡ clashes_somewhere contracts.now typed.now lines.now f.now types.now c }
 {
-    lines
-        .iter()
-        .any(|line| clashes_along(contracts, typed, lines, f, types, c, or_empty(line)))
+    lines.iter().any(|line| clashes_along(contracts, typed, lines, f, types, c, or_empty(line)))
 }
 
 fn breaks(
@@ -254,7 +247,10 @@ pub fn breaks_override(
 ) -> bool
     ensures { result ≡ breaks_override contracts.now typed.now lines.now c at }
 {
-    match (declarations_of(contracts, c).get(at), types_of(typed, c).get(at)) {
+    match (
+        declarations_of(contracts, c).get(at),
+        types_of(typed, c).get(at),
+    ) {
         (Some(f), Some(types)) => breaks(contracts, typed, lines, c, f, types),
         _ => false,
     }

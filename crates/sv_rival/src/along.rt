@@ -1,8 +1,7 @@
 //! Declarations of contracts, and lines.
 #![tactic(auto)]
 
-ghost use Rattle.std.specs.Prelude.{◌≡◌, slice_get};
-ghost use Rattle.std.specs.List.{list_any};
+ghost use Rattle.std.specs.Prelude.{◌≡◌};
 ghost use Rattle.sv_rival.specs.Rivals.{declarations_of, has, has_rival, line_of, or_empty, types_of};
 
 use crate::rival::is_rival;

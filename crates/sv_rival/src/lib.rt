@@ -10,7 +10,5 @@ mod rival;
 mod word;
 
 pub use along::{declarations_of, has, has_rival, line_of, or_empty, types_of};
-pub use rival::{
-    have_same_params, is_function, is_rival, same_name, sort_of, stands_before,
-};
+pub use rival::{have_same_params, is_function, is_rival, same_name, sort_of, stands_before};
 pub use word::{is_external, is_override, is_public, is_virtual};

@@ -2,7 +2,6 @@
 #![tactic(auto)]
 
 ghost use Rattle.std.specs.Prelude.{◌≡◌};
-ghost use Rattle.std.specs.List.{list_any};
 ghost use Rattle.sv_rival.specs.RivalWords.{is_external, is_external_word, is_override, is_override_word, is_public, is_public_word, is_virtual, is_virtual_word, words_of};
 
 use sv_decl::{Declaration, DeclarationKind, Word};
