@@ -2,7 +2,7 @@
 #![tactic(auto)]
 
 ghost use Rattle.std.specs.Prelude.{◌≡◌, slice_get};
-ghost use Rattle.sv_given.specs.BaseArguments.{args_break, breaks_along, can_be_made, is_concrete, is_given_twice, is_missing, is_of, is_wrong_number, misses_along, misses_args, param_count, params_of, takes_other, breaks_any, misses_one_of};
+ghost use Rattle.sv_base_args.specs.BaseArguments.{args_break, breaks_along, can_be_made, is_concrete, is_given_twice, is_missing, is_of, is_wrong_number, misses_along, misses_args, param_count, params_of, takes_other, breaks_any, misses_one_of};
 
 use crate::given::{Sought, UsePlace, is_constructor, is_given_along, use_at};
 use sqlite_items::Items;

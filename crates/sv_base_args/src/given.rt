@@ -3,7 +3,7 @@
 
 ghost use Rattle.std.specs.Prelude.{◌≡◌, slice_get};
 ghost use Rattle.std.specs.List.{list_any};
-ghost use Rattle.sv_given.specs.BaseArguments.{begins, behind, gives, gives_behind, gives_in, is_constructor, is_given_along, is_sought, use_at, use_in, use_behind};
+ghost use Rattle.sv_base_args.specs.BaseArguments.{begins, behind, gives, gives_behind, gives_in, is_constructor, is_given_along, is_sought, use_at, use_in, use_behind};
 
 use sv_decl::{Callable, Declaration, DeclarationKind, DeclaredContract, Given, Named};
 

@@ -10,8 +10,8 @@ use Rattle.sv_decl.specs.declared.data.Member.{Member}
 use Rattle.sv_decl.specs.declared.data.Named.{Named}
 use Rattle.sv_decl.specs.declared.data.Standing.{Standing}
 use Rattle.sv_decl.specs.declared.data.Standing.TheVariants as standing
-use Rattle.sv_given.specs.declared.given.UsePlace.TheVariants as place
-use Rattle.sv_given.specs.BaseArguments.{args_break, misses_args}
+use Rattle.sv_base_args.specs.declared.given.UsePlace.TheVariants as place
+use Rattle.sv_base_args.specs.BaseArguments.{args_break, misses_args}
 
 -- byte n of a text of one line
 abbrev byte : ℕ → Spot

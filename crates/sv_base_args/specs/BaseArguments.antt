@@ -11,9 +11,9 @@ use Rattle.sv_decl.specs.declared.data.Given.{Given}
 use Rattle.sv_decl.specs.declared.data.Named.{Named}
 use Rattle.sv_decl.specs.declared.data.Standing.{Standing}
 use Rattle.sv_decl.specs.declared.data.Standing.TheVariants as standing
-use Rattle.sv_given.specs.declared.given.Sought.{Sought}
-use Rattle.sv_given.specs.declared.given.UsePlace.{UsePlace}
-use Rattle.sv_given.specs.declared.given.UsePlace.TheVariants as place
+use Rattle.sv_base_args.specs.declared.given.Sought.{Sought}
+use Rattle.sv_base_args.specs.declared.given.UsePlace.{UsePlace}
+use Rattle.sv_base_args.specs.declared.given.UsePlace.TheVariants as place
 
 -- ---- where arguments are given
 
