@@ -4,14 +4,14 @@ use Rattle.std.specs.Option.{is_some}
 use Rattle.sv_ast.specs.declared.contract.Params.{Params}
 use Rattle.sv_ast.specs.declared.simple.SlotKind.{SlotKind}
 use Rattle.sv_ast.specs.declared.simple.SlotKind.TheVariants as slot
-use Rattle.sv_plain.specs.PlainExprs.{Kind}
+use Rattle.sv_plain.specs.PlainExprs.{Kind, PlainForm}
 use Rattle.sv_plain.specs.PlainStmts.{Stmt, Stated, StmtForm, For}
 use Rattle.sv_book.specs.Books.{Book, Table, Seen}
 use Rattle.sv_rule.specs.declared.fault.Rule.{Rule}
 use Rattle.sv_rule.specs.declared.fault.Rule.TheVariants as rule
 use Rattle.sv_rule.specs.declared.fault.Fault.{Fault}
 use Rattle.sv_rule.specs.RuleFaults.{first}
-use Rattle.sv_visit.specs.Sites.{Site, Expression, Annotation, Declaring, Filling, Stating, Bracing, Bare, OfContract, OfFunction, OfConstructor, OfSpecial, OfModifier, OfParam}
+use Rattle.sv_visit.specs.Sites.{Site, Expression, PlainUse, Annotation, Declaring, Filling, Stating, Bracing, Bare, OfContract, OfFunction, OfConstructor, OfSpecial, OfModifier, OfParam, OfOver}
 use Rattle.sv_annotation.specs.Openings.{calls_old}
 use Rattle.sv_form_book.specs.SitePlaces.{site_place}
 use Rattle.sv_seen.specs.declared.outlook.Within.{Within}
@@ -20,7 +20,7 @@ use Rattle.sv_seen.specs.declared.wanted.Wanted.TheVariants as wanted
 use Rattle.sv_naming.specs.NamesKnown.{Known, contract_entered, contract_left, function_entered, param_declared, local_declared, scope_entered, scope_left, note_entered, note_left, entry_entered, entry_left, text_of, meaning, used, has_type}
 use Rattle.sv_name_book.specs.declared.uses.TypeNames.{TypeNames}
 use Rattle.sv_name_book.specs.declared.uses.Use.{Use}
-use Rattle.sv_name_book.specs.NameUses.{use_at, overridden, member_type}
+use Rattle.sv_name_book.specs.NameUses.{use_at, plain_use, plain_names}
 
 -- ---- what the parts of a node know
 
@@ -105,8 +105,15 @@ abbrev pub is_type_known : Known → Option TypeNames → Bool
 is_type_known k None = true
 is_type_known k (Some t) = has_type k t.contract t.member
 
+-- of a type `C.S` both names
+abbrev pub is_plain_known : Known → PlainForm → Bool
+is_plain_known k p = is_use_known k (plain_use p) && is_type_known k (plain_names p)
+
+-- the contracts in `override(A, B)` have no place of their own
 abbrev pub is_known : Known → Site → Bool
-is_known k s = is_use_known k (use_at k.in_constructor s) && (is_type_known k (member_type s) && are_contracts k (overridden s))
+is_known k (PlainUse p) = is_plain_known k p
+is_known k (OfOver o) = are_contracts k o.names
+is_known k s = is_use_known k (use_at k.in_constructor s)
 
 -- ---- the rule Unknown, of names, as a group of its own
 

@@ -8,7 +8,7 @@ use Rattle.sv_ast.specs.declared.simple.SimpleKind.TheVariants as simple
 use Rattle.sv_ast.specs.declared.simple.SlotKind.{SlotKind}
 use Rattle.sv_ast.specs.declared.simple.SlotKind.TheVariants as slot
 use Rattle.sv_plain.specs.PlainExprs.{Kind, Name, PlainForm, Simply as PlainType, PlainKind, NamedType}
-use Rattle.sv_visit.specs.Sites.{Site, Expression, PlainUse, Filling, Simply, OfBase, OfOver, OfHead}
+use Rattle.sv_visit.specs.Sites.{Site, Expression, PlainUse, Filling, Simply, OfBase, OfHead}
 use Rattle.sv_seen.specs.declared.wanted.Wanted.{Wanted}
 use Rattle.sv_seen.specs.declared.wanted.Wanted.TheVariants as wanted
 use Rattle.sv_name_book.specs.declared.uses.TypeNames.{TypeNames}
@@ -66,11 +66,6 @@ use_at in_constructor (OfBase b) = use_of wanted.Base b.name b.span
 use_at in_constructor (OfHead h) = head_use in_constructor h.span h.kind
 use_at in_constructor s = None
 
--- the contracts in `override(A, B)`: they have no place of their own
-abbrev pub overridden : Site → List ℕ
-overridden (OfOver o) = o.names
-overridden s = []
-
 -- ---- of a type `C.S` both names
 
 abbrev pub both_names : ℕ → Option ℕ → Option TypeNames
@@ -83,7 +78,3 @@ kind_names k = None
 
 abbrev pub plain_names : PlainForm → Option TypeNames
 plain_names (PlainType at kind) = kind_names kind
-
-abbrev pub member_type : Site → Option TypeNames
-member_type (PlainUse p) = plain_names p
-member_type s = None

@@ -10,6 +10,6 @@ mod asks;
 mod nodes;
 mod uses;
 
-pub use asks::{are_contracts, is_type_known, note_use};
+pub use asks::{are_contracts, note_plain, note_use};
 pub use nodes::{is_for, note_within, params_count};
-pub use uses::{TypeNames, Use, expr_use, head_use, plain_names, plain_use, simple_use, slot_use};
+pub use uses::{TypeNames, Use, expr_use, head_use, simple_use, slot_use};
