@@ -1,3 +1,5 @@
 pub mod Keeping
 pub mod Rooming
+pub mod NewTerms
+pub mod PartTerms
 pub mod Chains
