@@ -1,5 +1,5 @@
 -- Believed: what a checker stands for, and what a step does to it. Hold it against the definitions of `sv_log` that it cites.
-use Rattle.std.specs.Prelude.{ℕ, ◌≤◌, Bool, List, ◌≡◌, length}
+use Rattle.std.specs.Prelude.{ℕ, ◌+◌, ◌≤◌, Bool, List, ◌≡◌, length}
 use Rattle.sv_log.specs.LogEntries.{Entry}
 use Rattle.sv_log.specs.Logs.{State, IsAllowed, after}
 use Rattle.sv_log.specs.LogCauses.{IsFirstFault}
@@ -76,3 +76,11 @@ pub record IsKept (terms : TermRows) (forms : FormList) (flags : List Bool) (fla
   pub forms_size : forms.room ≡ terms.room
   pub flags_size : terms.room ≤ flags_room
   pub list_size : terms.args_room ≤ list_room
+
+-- ---- the beginning
+
+-- what stands beside the terms is theirs, and there is room for so many more
+pub record IsBesideAll (terms : TermRows) (more : ℕ) (forms : FormList) (flags : List Bool) (flags_room : ℕ) : Type 0 where
+  pub beside : AreBeside (terms_of terms) forms.nodes flags
+  pub forms_size : forms.room ≡ length terms.rows + more
+  pub flags_size : length terms.rows + more ≤ flags_room

@@ -1,23 +1,31 @@
-ghost use Rattle.std.specs.Prelude.{◌↔◌, IsTrue};
+ghost use Rattle.std.specs.Prelude.{◌≡◌, ◌↔◌, true, IsTrue, IfOk};
+ghost use Rattle.sv_term.specs.Banks.{IsTerm, term};
+ghost use Rattle.sv_term.specs.Models.{is_claim};
 ghost use Rattle.sv_log.specs.LogEntries.{AddTerm, AddFact, Linear, Combine, Divide, SplitOn, Cut, CloseAt, Clash};
-ghost use Rattle.sv_log.specs.Logs.{IsClosed};
+ghost use Rattle.sv_log.specs.Logs.{begun, IsClosed};
 ghost use Rattle.sv_cert.specs.PlainLogs.{plain_node, plain_entry};
-ghost use Rattle.sv_room.specs.Rooms.{room};
+ghost use Rattle.sv_room.specs.Rooms.{room, both};
 ghost use Rattle.sv_room.specs.Needs.{need_of_node};
 ghost use Rattle.sv_allowed.specs.EntryJudging.{made};
-ghost use Rattle.sv_checker.specs.Checkers.{state, HasRoom, HasRoomFor, Steps};
+ghost use Rattle.sv_checker.specs.Checkers.{state, taken, rooms, HasRoom, HasRoomFor, Steps};
 
 use crate::judgement::Step;
 use crate::parts::are_terms;
+use crate::rooms::{beside_for, branch_for, list_for};
+use std::alloc::Global;
 use std::marker::Model;
 use sv_allowed::{Multiple, Why, clash, close, combine, cut, divide, split};
-use sv_beside::put_next;
+use sv_beside::{Beside, put_next};
 use sv_branch::Branch;
 use sv_cert::{Entry, LogNode};
 use sv_given::{as_its_form, by_its_rule};
+use sv_goal_room::{GoalRoom, fill};
 use sv_new_term::{Outcome, offer};
+use sv_room::Room;
+use sv_term::{Bank, TermId};
 use sv_term_forms::Forms;
 use sv_term_room::TermRoom;
+use sv_text::NoMemory;
 
 /// A log as far as it was read: its terms, what is in force, and its open splits. A contract sees these, and for how much there is room.
 #[derive(Drop)]
@@ -43,6 +51,31 @@ impl Model for Checker {
 }
 
 impl Checker {
+    /// A log of the goal before its first entry, and as much more room as is given. It takes all memory that is ever needed.
+    pub fn begin(
+        alloc: Global,
+        bank: &Bank,
+        goal: TermId,
+        room: Room,
+    ) -> Result<Checker, NoMemory>
+        requires { IsTerm bank.now goal × (is_claim (term bank.now goal) ≡ true) }
+        ensures state { IfOk result (λ c. state c ≡ begun (term bank.now goal)) }
+        ensures room { IfOk result (λ c. rooms c ≡ both (taken c) room) }
+    {
+        let GoalRoom { terms, goal } = fill(alloc, bank, goal, room)?;
+        terms.is_sound();
+        let Beside { forms, flags } = beside_for(alloc, &terms, room.terms)?;
+        let list = list_for(alloc, &terms, room.args)?;
+        let branch = branch_for(alloc, goal, room)?;
+        Ok(Checker {
+            terms,
+            forms,
+            flags,
+            list,
+            branch,
+        })
+    }
+
     /// Whether the branch is closed and no split is open: then the goal is true in every model.
     pub fn closed(&self) -> bool
         ensures { IsTrue result ↔ IsClosed (state self.now) }

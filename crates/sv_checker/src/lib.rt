@@ -11,6 +11,7 @@ mod checker;
 mod judgement;
 pub mod laws;
 mod parts;
+mod rooms;
 
 pub use checker::Checker;
 pub use judgement::Step;
