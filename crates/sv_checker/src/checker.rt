@@ -1,6 +1,5 @@
-ghost use Rattle.std.specs.Prelude.{◌≡◌, ◌↔◌, true, IsTrue, IfOk};
-ghost use Rattle.sv_term.specs.Banks.{IsTerm, term};
-ghost use Rattle.sv_term.specs.Models.{is_claim};
+ghost use Rattle.std.specs.Prelude.{◌≡◌, ◌↔◌, IsTrue, IfOk};
+ghost use Rattle.sv_term.specs.Banks.{IsBool, term};
 ghost use Rattle.sv_log.specs.LogEntries.{AddTerm, AddFact, Linear, Combine, Divide, SplitOn, Cut, CloseAt, Clash};
 ghost use Rattle.sv_log.specs.Logs.{begun, IsClosed};
 ghost use Rattle.sv_cert.specs.PlainLogs.{plain_node, plain_entry};
@@ -58,7 +57,7 @@ impl Checker {
         goal: TermId,
         room: Room,
     ) -> Result<Checker, NoMemory>
-        requires { IsTerm bank.now goal × (is_claim (term bank.now goal) ≡ true) }
+        requires { IsBool bank.now goal }
         ensures state { IfOk result (λ c. state c ≡ begun (term bank.now goal)) }
         ensures room { IfOk result (λ c. rooms c ≡ both (taken c) room) }
     {
