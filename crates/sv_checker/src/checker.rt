@@ -1,12 +1,12 @@
 ghost use Rattle.std.specs.Prelude.{◌≡◌, ◌↔◌, IsTrue, IfOk};
 ghost use Rattle.sv_term.specs.Banks.{IsBool, term};
-ghost use Rattle.sv_log.specs.LogEntries.{AddTerm, AddFact, Linear, Combine, Divide, SplitOn, Cut, CloseAt, Clash};
+ghost use Rattle.sv_log.specs.LogEntries.{AddTerm, AddFact, Linear, SplitOn, Cut, CloseAt, Clash};
 ghost use Rattle.sv_log.specs.Logs.{begun, IsClosed};
 ghost use Rattle.sv_cert.specs.PlainLogs.{plain_node, plain_entry};
 ghost use Rattle.sv_room.specs.Rooms.{room, both};
 ghost use Rattle.sv_room.specs.Needs.{need_of_node};
 ghost use Rattle.sv_allowed.specs.EntryJudging.{made};
-ghost use Rattle.sv_checker.specs.Checkers.{state, taken, rooms, HasRoom, HasRoomFor, Steps};
+ghost use Rattle.sv_checker.specs.Checkers.{state, taken, rooms, HasRoom, HasRoomFor, Steps, combines, divides};
 
 use crate::judgement::Step;
 use crate::parts::are_terms;
@@ -205,8 +205,8 @@ impl Checker {
         constant: i128,
         parts: &[(i128, usize)],
     ) -> Step
-        requires { HasRoom self.old (Combine first.factor first.item second.factor second.item (made constant parts.now)) }
-        ensures { Steps self.old self.new (Combine first.factor first.item second.factor second.item (made constant parts.now)) result }
+        requires { HasRoom self.old (combines first second constant parts.now) }
+        ensures { Steps self.old self.new (combines first second constant parts.now) result }
     {
         self.branch.is_nested();
         match combine(&self.terms, &self.branch, first, second, constant, parts) {
@@ -219,8 +219,8 @@ impl Checker {
     }
 
     fn divide(&mut self, divided: Multiple, constant: i128, parts: &[(i128, usize)]) -> Step
-        requires { HasRoom self.old (Divide divided.factor divided.item (made constant parts.now)) }
-        ensures { Steps self.old self.new (Divide divided.factor divided.item (made constant parts.now)) result }
+        requires { HasRoom self.old (divides divided constant parts.now) }
+        ensures { Steps self.old self.new (divides divided constant parts.now) result }
     {
         self.branch.is_nested();
         match divide(&self.terms, &self.branch, divided, constant, parts) {

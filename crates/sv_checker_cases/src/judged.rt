@@ -46,7 +46,7 @@ impl Display for Answer {
 }
 
 /// Judges the log of a text, `;` for a newline.
-pub fn answer(alloc: Global, condition: &str, shown: &[u8]) -> Result<Answer, NoMemory> {
+pub fn answer_of(alloc: Global, condition: &str, shown: &[u8]) -> Result<Answer, NoMemory> {
     let Some((bank, goal)) = condition::read(alloc, condition)? else {
         return Ok(Answer::NoCondition);
     };
@@ -65,21 +65,21 @@ fn judged(alloc: Global, bank: &Bank, goal: TermId, log: &Log) -> Result<Answer,
         return Ok(Answer::NoCondition);
     }
     let mut checker = Checker::begin(alloc, bank, goal, room_of(log))?;
-    let mut count = 0;
-    for entry in log.entries.as_slice() {
-        count += 1;
+    let entries = log.entries.as_slice();
+    for place in 0..entries.len() {
+        let entry = &entries[place];
         if !checker.has_room(entry) {
-            return Ok(Answer::NoRoom(count));
+            return Ok(Answer::NoRoom(place + 1));
         }
         match checker.step(entry) {
             Step::Accepted => {}
-            Step::Rejected(why) => return Ok(Answer::Rejected(count, why)),
+            Step::Rejected(why) => return Ok(Answer::Rejected(place + 1, why)),
         }
     }
     if checker.closed() {
-        return Ok(Answer::Closed(count));
+        return Ok(Answer::Closed(entries.len()));
     }
-    Ok(Answer::Open(count))
+    Ok(Answer::Open(entries.len()))
 }
 
 fn is_truth(bank: &Bank, goal: TermId) -> bool

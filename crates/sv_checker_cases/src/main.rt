@@ -13,7 +13,7 @@ fn main(rt: HostRuntime) -> anyhow::Result<()> {
         let line = line?;
         match line.as_str().split_once('|') {
             Some((condition, log)) => {
-                let answer = judged::answer(rt.alloc(), condition, log.as_bytes())?;
+                let answer = judged::answer_of(rt.alloc(), condition, log.as_bytes())?;
                 println!(rt; "{answer}")?;
             }
             None => println!(rt; "no case")?,

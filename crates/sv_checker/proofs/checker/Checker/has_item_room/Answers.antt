@@ -1,4 +1,4 @@
-use Rattle.std.proofs.Common.{◌↔◌, ◌<◌, ◌≤◌, ◌+◌, length, IsTrue, false, subst}
+use Rattle.std.proofs.Common.{◌↔◌, ◌<◌, ◌≤◌, ◌+◌, length, IsTrue, subst}
 use Rattle.sv_room.specs.Rooms.{room}
 use Rattle.sv_force.specs.InForce.{Force, parts_in}
 use Rattle.sv_checker.specs.Checkers.{Checking, HasRoomFor}
