@@ -108,7 +108,7 @@ module _ (t : TermRows) (f : FormList) (flags : List Bool) (m l : ℕ) (b : Stan
     same_rooms =
         ap (λ n. room n new.args_room new.sorts_room b.force.room b.force.parts_room b.room) long.rooms.0
         ∙ (ap (λ n. room t.room n new.sorts_room b.force.room b.force.parts_room b.room) long.rooms.1
-            ∙ ap (λ n. room t.room t.args_room n b.force.room b.force.parts_room b.room) long.rooms.2)
+        ∙ ap (λ n. room t.room t.args_room n b.force.room b.force.parts_room b.room) long.rooms.2)
 
     taken_new : IsWithin (taken (checking new b)) (both (taken (checking t b)) (need_of (AddTerm node)))
     taken_new =

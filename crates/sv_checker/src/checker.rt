@@ -51,12 +51,7 @@ impl Model for Checker {
 
 impl Checker {
     /// A log of the goal before its first entry, and as much more room as is given. It takes all memory that is ever needed.
-    pub fn begin(
-        alloc: Global,
-        bank: &Bank,
-        goal: TermId,
-        room: Room,
-    ) -> Result<Checker, NoMemory>
+    pub fn begin(alloc: Global, bank: &Bank, goal: TermId, room: Room) -> Result<Checker, NoMemory>
         requires { IsBool bank.now goal }
         ensures state { IfOk result (λ c. state c ≡ begun (term bank.now goal)) }
         ensures room { IfOk result (λ c. rooms c ≡ both (taken c) room) }
@@ -89,9 +84,8 @@ impl Checker {
         match entry {
             Entry::Term(node) => self.has_term_room(node),
             Entry::Fact(_, _, _, _) => self.has_item_room(0),
-            Entry::Linear(_, _, row) | Entry::Combine(_, _, _, _, row) | Entry::Divide(_, _, row) => {
-                self.has_item_room(row.parts.len())
-            }
+            Entry::Linear(_, _, row) | Entry::Combine(_, _, _, _, row) | Entry::Divide(_, _, row) =>
+                { self.has_item_room(row.parts.len()) }
             Entry::Split(_) => self.has_split_room(),
             Entry::Cut | Entry::Close(_) | Entry::Clash(_, _) => self.needs_none(),
         }
@@ -134,12 +128,21 @@ impl Checker {
                 self.linear(*p, *forward, row.constant, row.parts.as_slice())
             }
             Entry::Combine(m, p, n, q, row) => {
-                let first = Multiple { factor: *m, item: *p };
-                let second = Multiple { factor: *n, item: *q };
+                let first = Multiple {
+                    factor: *m,
+                    item: *p,
+                };
+                let second = Multiple {
+                    factor: *n,
+                    item: *q,
+                };
                 self.combine(first, second, row.constant, row.parts.as_slice())
             }
             Entry::Divide(d, p, row) => {
-                let divided = Multiple { factor: *d, item: *p };
+                let divided = Multiple {
+                    factor: *d,
+                    item: *p,
+                };
                 self.divide(divided, row.constant, row.parts.as_slice())
             }
             Entry::Split(n) => self.split(*n),
@@ -189,7 +192,15 @@ impl Checker {
         ensures { Steps self.old self.new (Linear p forward (made constant parts.now)) result }
     {
         self.branch.is_nested();
-        match as_its_form(&self.terms, &mut self.forms, &self.branch, p, forward, constant, parts) {
+        match as_its_form(
+            &self.terms,
+            &mut self.forms,
+            &self.branch,
+            p,
+            forward,
+            constant,
+            parts,
+        ) {
             Some(why) => Step::Rejected(why),
             None => {
                 self.branch.push_row(constant, parts);

@@ -17,22 +17,14 @@ fn sum(taken: usize, more: usize) -> Result<usize, NoMemory>
 }
 
 /// What stands beside the terms, with room for so many more.
-pub(crate) fn beside_for(
-    alloc: Global,
-    terms: &TermRoom,
-    more: usize,
-) -> Result<Beside, NoMemory>
+pub(crate) fn beside_for(alloc: Global, terms: &TermRoom, more: usize) -> Result<Beside, NoMemory>
     ensures { IfOk result (λ b. Suits terms.now more b.forms b.flags.items (vec_capacity b.flags)) }
 {
     beside_all(alloc, terms, sum(terms.len(), more)?)
 }
 
 /// A list that takes the arguments of all terms and so many more.
-pub(crate) fn list_for(
-    alloc: Global,
-    terms: &TermRoom,
-    more: usize,
-) -> Result<Vec<usize>, NoMemory>
+pub(crate) fn list_for(alloc: Global, terms: &TermRoom, more: usize) -> Result<Vec<usize>, NoMemory>
     ensures { IfOk result (λ v. numbers_in (args_of terms.now.rows) + more ≤ vec_capacity v) }
 {
     let taken = args_taken(terms).ok_or(NoMemory)?;
