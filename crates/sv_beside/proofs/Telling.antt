@@ -1,14 +1,13 @@
 -- What is told of a term by its shape and its arguments.
-use Rattle.std.proofs.Common.{ℕ, zero, suc, ◌<◌, ◌≤◌, Bool, true, false, ◌&&◌, List, [], ◌∷◌, ◌≡◌, length, take, get_or, refl, sym, ap, ap₂, ◌∙◌, subst, arith}
-use Rattle.std.specs.List.{All}
+use Rattle.std.proofs.Common.{ℕ, zero, suc, ◌<◌, Bool, true, false, List, [], ◌∷◌, ◌≡◌, length, take, refl, sym, ap, ap₂, ◌∙◌, subst, arith}
 use Rattle.std.proofs.lemmas.List.Elements.{All-head, All-tail}
 use Rattle.sv_term.specs.Sorts.{Sort, is_num}
-use Rattle.sv_term.specs.Terms.{Shape as Node, Term, App, Terms, End, More, LitNode, AddNode, SubNode, MulNode, LeNode, EqNode, fits, fits_node, all_fit, sort_of, sorts_of, of_two}
+use Rattle.sv_term.specs.Terms.{Term, App, Terms, End, More, LitNode, fits, fits_node, all_fit, sort_of, sorts_of, of_two}
 use Rattle.sv_term.proofs.Same.{both_true}
 use Rattle.sv_log.specs.Logs.{nth_term, nth_terms}
 use Rattle.sv_plain_terms.proofs.FlagsOfTerms.{fits_at}
 use Rattle.sv_sort_room.specs.SortCells.{sorts_of as kinds}
-use Rattle.sv_term_room.specs.TermRows.{TermRows, shape_by, terms_of, tree_of, AreKept, AreBelow, IsNodeAt}
+use Rattle.sv_term_room.specs.TermRows.{TermRows, shape_by, terms_of, AreKept, AreBelow, IsNodeAt}
 use Rattle.sv_term_room.specs.declared.shape.Shape.{Shape}
 use Rattle.sv_term_room.specs.declared.shape.Shape.TheVariants as s
 use Rattle.sv_term_forms.specs.declared.form_node.FormNode.TheVariants.{Literal, Sum, Difference, Product, AtMost, Equal}

@@ -1,5 +1,5 @@
 -- Believed: what stands beside the terms of a room. Hold it against the README's first paragraph.
-use Rattle.std.specs.Prelude.{ℕ, ◌+◌, ◌<◌, ◌≤◌, Bool, List, ◌≡◌, length, map, take}
+use Rattle.std.specs.Prelude.{ℕ, ◌<◌, ◌≤◌, Bool, List, ◌≡◌, length, map, take}
 use Rattle.sv_term.specs.Terms.{Term, is_plain}
 use Rattle.sv_log.specs.Logs.{nth_term}
 use Rattle.sv_form.specs.declared.node.Linear.{Linear}

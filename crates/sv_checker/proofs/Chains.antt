@@ -1,15 +1,12 @@
 -- What the steps of a checker come to.
-use Rattle.std.proofs.Common.{◌+◌, ◌≤◌, List, [], ◌∷◌, ◌++◌, ◌≡◌, true, refl, sym, ap, ◌∙◌, subst, arith}
-use Rattle.sv_term.specs.Terms.{Term}
-use Rattle.sv_term.specs.Models.{is_claim, Valid}
+use Rattle.std.proofs.Common.{List, [], ◌∷◌, ◌≡◌, sym, ap, ◌∙◌, subst, arith}
 use Rattle.sv_log.specs.LogEntries.{Entry}
-use Rattle.sv_log.specs.Logs.{State, begun, after, after_all, IsAllowed, IsAccepted, IsClosed}
+use Rattle.sv_log.specs.Logs.{after, after_all, IsAccepted, IsClosed}
 use Rattle.sv_log.proofs.Soundness.{sound}
-use Rattle.sv_room.specs.Rooms.{room, none, both, total, capped_room, IsWithin, IsReal}
+use Rattle.sv_room.specs.Rooms.{none, both, total, IsWithin}
 use Rattle.sv_room.specs.Needs.{need_of}
-use Rattle.sv_room.specs.declared.room.Room.{Room}
 use Rattle.sv_room.proofs.Enough.{prefixes_have_room}
-use Rattle.sv_checker.specs.Checkers.{Checking, state, taken, rooms, HasRoom, Accepts}
+use Rattle.sv_checker.specs.Checkers.{Checking, state, taken, rooms}
 use Rattle.sv_checker.specs.CheckerLaws.{LeadsTo, ClosedProves, LogsHaveRoom}
 
 -- the log is accepted, and the state is the one after it

@@ -1,20 +1,15 @@
 -- A checker stays sound at each step, and each step does what its entry does.
-use Rattle.std.proofs.Common.{ℕ, zero, suc, ◌+◌, ◌<◌, ◌≤◌, Bool, true, false, cond, List, [], ◌∷◌, ◌++◌, ◌≡◌, length, map, take, slice_get, Option, Some, None, refl, sym, ap, ◌∙◌, subst, arith}
-use Rattle.std.specs.List.{All, Contains}
+use Rattle.std.proofs.Common.{ℕ, zero, suc, ◌+◌, ◌<◌, ◌≤◌, Bool, true, false, cond, List, [], ◌∷◌, ◌++◌, ◌≡◌, length, take, slice_get, Some, refl, sym, ap, ◌∙◌, subst, arith}
 use Rattle.std.proofs.lemmas.List.{length-append, length-map, length-take}
 use Rattle.std.proofs.lemmas.List.Elements.{All-head, All-weaker}
-use lib.IntN.{ℤ, pos, negsuc, ◌*ℤ◌}
-use lib.Signed.{◌<ℤ◌}
-use Rattle.std.proofs.lemmas.Int.{ints}
-use Rattle.std.proofs.lemmas.Bool.Decides.{Decides-eqb}
+use lib.IntN.{ℤ}
 use Rattle.sv_term.specs.Terms.{Term}
-use Rattle.sv_term.specs.FactRules.{Says}
-use Rattle.sv_log.specs.LogEntries.{Monomial, Row, LogNode, Entry, AddTerm, AddFact, Linear, Combine, Divide, SplitOn, Cut, CloseAt, Clash}
-use Rattle.sv_log.specs.LogRows.{row, is_zero, multiple, plain_monomial, times, times_parts, sum_of, IsCombined, IsDivided}
-use Rattle.sv_log.specs.Logs.{State, Item, Known, Bound, IsAllowed, nth_term, after, with_item}
+use Rattle.sv_log.specs.LogEntries.{Row, Entry, AddFact, Linear, Combine, Divide, SplitOn, Cut, CloseAt}
+use Rattle.sv_log.specs.LogRows.{plain_monomial}
+use Rattle.sv_log.specs.Logs.{Bound, IsAllowed, after, with_item}
 use Rattle.sv_log.specs.LogCauses.{IsFirstFault}
-use Rattle.sv_row.specs.RowParts.{monomials, AreAbove, AreRising, AreNonZero, IsNormal}
-use Rattle.sv_form_rows.proofs.NormalRows.{normal_sum, normal_multiple}
+use Rattle.sv_row.specs.RowParts.{monomials, IsNormal}
+use Rattle.sv_normal.proofs.NormalParts.{combined_normal, divided_normal}
 use Rattle.sv_term_forms.proofs.Forming.{forms_normal}
 use Rattle.sv_term_forms.specs.FormLists.{FormList}
 use Rattle.sv_force.specs.InForce.{Held, FactOn, RowOf, parts_of, parts_in}
@@ -23,7 +18,7 @@ use Rattle.sv_branch.specs.BranchTrees.{item_of, AreBelow}
 use Rattle.sv_branch.specs.BranchLaws.{IsNested}
 use Rattle.sv_branch.proofs.Asking.{questions_agree}
 use Rattle.sv_branch.proofs.Carrying.{steps_after}
-use Rattle.sv_branch_kept.specs.KeptBranches.{IsSoundItem, IsSound}
+use Rattle.sv_branch_kept.specs.KeptBranches.{IsSoundItem}
 use Rattle.sv_branch_kept.proofs.Keeping.{steps_keep, asks_are_met}
 use Rattle.sv_term_room.specs.TermRows.{TermRows, terms_of}
 use Rattle.sv_room.specs.Rooms.{room, none, both, IsWithin}
@@ -42,39 +37,6 @@ normal_item n (RowOf r) s = s
 row_held : (ts : List Term) (r : Row) (h : Held) → item_of ts h ≡ Bound r → h ≡ RowOf r
 row_held ts r (FactOn g m) e = absurd (cc)
 row_held ts r (RowOf q) e = let same : q ≡ r = cc in ap RowOf same
-
-times_more : (m : ℕ) (r : Row) → multiple (pos (suc m)) r ≡ times (pos (suc m)) r
-times_more m r = go (is_zero (pos (suc m))) refl
-  where
-    go : (b : Bool) → is_zero (pos (suc m)) ≡ b → cond b (row (pos 0) []) (times (pos (suc m)) r) ≡ times (pos (suc m)) r
-    go true e = let z = (Decides-eqb (suc m) 0).0 e in absurd (omega (arith, z))
-    go false e = refl
-
-normal_times : (k : ℤ) (r : Row) → pos 0 <ℤ k → IsNormal r.parts → IsNormal (times k r).parts
-normal_times (pos zero) r l n = absurd (omega (arith, ints, l))
-normal_times (pos (suc m)) r l n = subst (λ (s : Row). IsNormal s.parts) (times_more m r) (normal_multiple (pos (suc m)) r n)
-normal_times (negsuc m) r l n = normal_multiple (negsuc m) r n
-
-above_back : (d : ℤ) (x : ℕ) (ps : List Monomial) → AreAbove x (times_parts d ps) → AreAbove x ps
-above_back d x [] h = tt
-above_back d x (p ∷ ps) h = (h.0, above_back d x ps h.1)
-
-rising_back : (d : ℤ) (ps : List Monomial) → AreRising (times_parts d ps) → AreRising ps
-rising_back d [] h = tt
-rising_back d (p ∷ ps) h = (above_back d p.column ps h.0, rising_back d ps h.1)
-
-times_zero : (d : ℤ) → d *ℤ pos 0 ≡ pos 0
-times_zero (pos m) = omega (arith, ints)
-times_zero (negsuc m) = omega (arith, ints)
-
-non_zero_back : (d : ℤ) (ps : List Monomial) → AreNonZero (times_parts d ps) → AreNonZero ps
-non_zero_back d [] h = tt
-non_zero_back d (p ∷ ps) h = (λ e. h.0 (ap (λ k. d *ℤ k) e ∙ times_zero d), non_zero_back d ps h.1)
-
-normal_back : (d : ℤ) (r t : Row) → r.parts ≡ times_parts d t.parts → IsNormal r.parts → IsNormal t.parts
-normal_back d r t e n =
-    let m = subst IsNormal e n in
-    record { rising = rising_back d t.parts m.rising; non_zero = non_zero_back d t.parts m.non_zero }
 
 -- ---- items and splits
 
@@ -129,12 +91,10 @@ module _ (t : TermRows) (f : FormList) (flags : List Bool) (m l : ℕ) (b : Stan
   sound_linear p forward r a = forms_normal (terms_of t) a.stated.0 forward r a.stated.2
 
   pub sound_combine : (i : ℤ) (p : ℕ) (j : ℤ) (q : ℕ) (r : Row) → IsAllowed (stands t b) (Combine i p j q r) → IsSoundItem (length (terms_of t)) (RowOf r)
-  sound_combine i p j q r a =
-      let c = a.stated.4 in
-      subst (λ (s : Row). IsNormal s.parts) (sym c.is) (normal_sum (times i a.stated.0) (times j a.stated.1) (normal_times j a.stated.1 c.cancels.5.second (row_normal q a.stated.1 a.stated.3)))
+  sound_combine i p j q r a = combined_normal i j a.stated.0 a.stated.1 r a.stated.4 (row_normal q a.stated.1 a.stated.3)
 
   pub sound_divide : (d : ℤ) (p : ℕ) (r : Row) → IsAllowed (stands t b) (Divide d p r) → IsSoundItem (length (terms_of t)) (RowOf r)
-  sound_divide d p r a = normal_back d a.stated.0 r a.stated.2.parts (row_normal p a.stated.0 a.stated.1)
+  sound_divide d p r a = divided_normal d a.stated.0 r a.stated.2 (row_normal p a.stated.0 a.stated.1)
 
   -- ---- a fact or a row
 

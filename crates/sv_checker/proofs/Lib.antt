@@ -3,4 +3,4 @@ pub mod Rooming
 pub mod NewTerms
 pub mod PartTerms
 pub mod Chains
-pub mod Begins
+pub mod TakenArgs

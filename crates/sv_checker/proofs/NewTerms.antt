@@ -1,11 +1,11 @@
 -- What a new term does to a checker.
-use Rattle.std.proofs.Common.{ℕ, zero, suc, ◌+◌, ◌<◌, ◌≤◌, Bool, true, false, List, [], ◌∷◌, ◌++◌, ◌≡◌, length, map, take, refl, sym, ap, ◌∙◌, subst, arith}
+use Rattle.std.proofs.Common.{ℕ, ◌+◌, ◌<◌, ◌≤◌, Bool, false, List, [], ◌∷◌, ◌++◌, ◌≡◌, length, take, refl, sym, ap, ◌∙◌, subst, arith}
 use Rattle.std.specs.List.{All, Contains}
 use Rattle.std.proofs.lemmas.List.{length-append, length-map}
 use Rattle.std.proofs.lemmas.List.Elements.{All-nil}
 use Rattle.sv_term.specs.Terms.{Term, is_plain}
 use Rattle.sv_log.specs.LogEntries.{LogNode, AddTerm, terms_among}
-use Rattle.sv_log.specs.Logs.{State, IsAllowed, built, after}
+use Rattle.sv_log.specs.Logs.{built, after}
 use Rattle.sv_list_room.specs.NumberLists.{numbers_in}
 use Rattle.sv_sort_room.proofs.Building.{front_of}
 use Rattle.sv_branch.specs.OpenBranches.{Standing}
@@ -20,9 +20,9 @@ use Rattle.sv_beside.specs.BesideTerms.{AreBeside, HasNext}
 use Rattle.sv_room.specs.Rooms.{room, both, IsWithin}
 use Rattle.sv_room.specs.Needs.{need_of}
 use Rattle.sv_allowed.specs.EntryJudging.{stands}
-use Rattle.sv_checker.specs.Checkers.{Checking, checking, state, taken, rooms, HasRoom, Accepts, IsKept}
+use Rattle.sv_checker.specs.Checkers.{Checking, checking, taken, rooms, HasRoom, Accepts, IsKept}
 use Rattle.sv_checker.proofs.Keeping.{sound_splits}
-use Rattle.sv_checker.proofs.Rooming.{args_total, terms_total, sorts_total, rest_total, node_room}
+use Rattle.sv_checker.proofs.Rooming.{args_total, terms_total, sorts_total, node_room}
 
 numbers_one : (rows : List TermRow) (r : TermRow) → numbers_in (args_of (rows ++ r ∷ [])) ≡ numbers_in (args_of rows) + length r.node.args
 numbers_one [] r = omega arith
@@ -108,7 +108,7 @@ module _ (t : TermRows) (f : FormList) (flags : List Bool) (m l : ℕ) (b : Stan
     same_rooms =
         ap (λ n. room n new.args_room new.sorts_room b.force.room b.force.parts_room b.room) long.rooms.0
         ∙ (ap (λ n. room t.room n new.sorts_room b.force.room b.force.parts_room b.room) long.rooms.1
-            ∙ ap (λ n. room t.room t.args_room n b.force.room b.force.parts_room b.room) long.rooms.2)
+        ∙ ap (λ n. room t.room t.args_room n b.force.room b.force.parts_room b.room) long.rooms.2)
 
     taken_new : IsWithin (taken (checking new b)) (both (taken (checking t b)) (need_of (AddTerm node)))
     taken_new =

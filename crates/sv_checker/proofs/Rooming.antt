@@ -1,16 +1,14 @@
 -- The room that an entry takes.
-use Rattle.std.proofs.Common.{ℕ, ◌+◌, ◌<◌, ◌≤◌, Bool, true, false, ◌&&◌, IsTrue, List, [], ◌∷◌, ◌++◌, ◌≡◌, ◌↔◌, length, map, refl, sym, ap, ap₂, ◌∙◌, subst, arith}
+use Rattle.std.proofs.Common.{ℕ, ◌+◌, ◌<◌, ◌≤◌, Bool, true, false, IsTrue, List, [], ◌∷◌, ◌≡◌, ◌↔◌, length, refl, arith}
 use Rattle.std.specs.List.{list_all}
 use Rattle.sv_term.specs.Sorts.{Sort, NumSort, BoolSort, ArrSort, TupSort, Sorts, NoSorts, SortAnd}
-use Rattle.sv_term.proofs.Same.{both_true}
 use Rattle.sv_log.specs.LogEntries as l
 use Rattle.sv_log.specs.LogEntries.{Part, TermPart, SortPart, NumberPart, FlagPart, LogNode, Slot, SignSlot, FlagSlot, NumberSlot, SortSlot, TermSlot, TermsSlot, Kind, slots_of, fills, fill, suits, terms_among}
-use Rattle.sv_list_room.specs.NumberLists.{numbers_in}
 use Rattle.sv_log_sort.specs.TakenSorts as cells
 use Rattle.sv_log_shape.specs.LoggedShapes.{cells_in}
-use Rattle.sv_term_room.specs.TermRows.{TermRows, args_of}
+use Rattle.sv_term_room.specs.TermRows.{TermRows}
 use Rattle.sv_new_term.specs.Offers.{HasNodeRoom}
-use Rattle.sv_room.specs.Rooms.{room, both, total, IsWithin}
+use Rattle.sv_room.specs.Rooms.{room, total, IsWithin}
 use Rattle.sv_room.specs.Needs as needs
 use Rattle.sv_room.specs.Needs.{need_of_part, need_of_node}
 use Rattle.sv_force.specs.InForce.{parts_in}

@@ -1,11 +1,11 @@
 -- Believed: what a checker stands for, and what a step does to it. Hold it against the definitions of `sv_log` that it cites.
-use Rattle.std.specs.Prelude.{ℕ, ◌+◌, ◌≤◌, Bool, List, ◌≡◌, length}
-use Rattle.sv_log.specs.LogEntries.{Entry}
+use Rattle.std.specs.Prelude.{ℕ, ◌+◌, ◌≤◌, ℤ, Bool, false, List, [], ◌≡◌, length}
+use Rattle.sv_log.specs.LogEntries.{Entry, Combine, Divide}
 use Rattle.sv_log.specs.Logs.{State, IsAllowed, after}
 use Rattle.sv_log.specs.LogCauses.{IsFirstFault}
 use Rattle.sv_list_room.specs.NumberLists.{numbers_in}
-use Rattle.sv_force.specs.InForce.{parts_in}
-use Rattle.sv_branch.specs.OpenBranches.{Standing}
+use Rattle.sv_force.specs.InForce.{FactOn, parts_in, force}
+use Rattle.sv_branch.specs.OpenBranches.{Standing, standing, with_held}
 use Rattle.sv_branch_kept.specs.KeptBranches.{IsSound}
 use Rattle.sv_term_room.specs.TermRows.{TermRows, terms_of, args_of}
 use Rattle.sv_term_forms.specs.FormLists.{FormList}
@@ -13,8 +13,9 @@ use Rattle.sv_beside.specs.BesideTerms.{AreBeside}
 use Rattle.sv_room.specs.Rooms.{room, both, IsWithin}
 use Rattle.sv_room.specs.Needs.{need_of}
 use Rattle.sv_room.specs.declared.room.Room.{Room}
-use Rattle.sv_allowed.specs.EntryJudging.{cause, stands}
+use Rattle.sv_allowed.specs.EntryJudging.{cause, stands, made}
 use Rattle.sv_allowed.specs.declared.why.Why.{Why}
+use Rattle.sv_allowed.specs.declared.rows.Multiple.{Multiple}
 use Rattle.sv_checker.specs.declared.judgement.Step.{Step}
 use Rattle.sv_checker.specs.declared.judgement.Step.TheVariants as j
 
@@ -77,10 +78,21 @@ pub record IsKept (terms : TermRows) (forms : FormList) (flags : List Bool) (fla
   pub flags_size : terms.room ≤ flags_room
   pub list_size : terms.args_room ≤ list_room
 
--- ---- the beginning
+-- ---- parts
+
+-- the entries that make a row of others
+abbrev pub combines : Multiple → Multiple → ℤ → List (ℤ × ℕ) → Entry
+combines m n k ps = Combine m.factor m.item n.factor n.item (made k ps)
+
+abbrev pub divides : Multiple → ℤ → List (ℤ × ℕ) → Entry
+divides m k ps = Divide m.factor m.item (made k ps)
+
+-- the fact that the goal is false, and room for as much more
+abbrev pub begun_branch : ℕ → Room → Standing
+begun_branch goal more = with_held (FactOn false goal) (standing (force [] (1 + more.items) more.coefficients) [] more.splits false)
 
 -- what stands beside the terms is theirs, and there is room for so many more
-pub record IsBesideAll (terms : TermRows) (more : ℕ) (forms : FormList) (flags : List Bool) (flags_room : ℕ) : Type 0 where
+pub record Suits (terms : TermRows) (more : ℕ) (forms : FormList) (flags : List Bool) (flags_room : ℕ) : Type 0 where
   pub beside : AreBeside (terms_of terms) forms.nodes flags
   pub forms_size : forms.room ≡ length terms.rows + more
   pub flags_size : length terms.rows + more ≤ flags_room

@@ -1,13 +1,12 @@
-ghost use Rattle.std.specs.Prelude.{◌≡◌, ◌↔◌, true, IsTrue, IfOk};
-ghost use Rattle.sv_term.specs.Banks.{IsTerm, term};
-ghost use Rattle.sv_term.specs.Models.{is_claim};
-ghost use Rattle.sv_log.specs.LogEntries.{AddTerm, AddFact, Linear, Combine, Divide, SplitOn, Cut, CloseAt, Clash};
+ghost use Rattle.std.specs.Prelude.{◌≡◌, ◌↔◌, IsTrue, IfOk};
+ghost use Rattle.sv_term.specs.Banks.{IsBool, term};
+ghost use Rattle.sv_log.specs.LogEntries.{AddTerm, AddFact, Linear, SplitOn, Cut, CloseAt, Clash};
 ghost use Rattle.sv_log.specs.Logs.{begun, IsClosed};
 ghost use Rattle.sv_cert.specs.PlainLogs.{plain_node, plain_entry};
 ghost use Rattle.sv_room.specs.Rooms.{room, both};
 ghost use Rattle.sv_room.specs.Needs.{need_of_node};
 ghost use Rattle.sv_allowed.specs.EntryJudging.{made};
-ghost use Rattle.sv_checker.specs.Checkers.{state, taken, rooms, HasRoom, HasRoomFor, Steps};
+ghost use Rattle.sv_checker.specs.Checkers.{state, taken, rooms, HasRoom, HasRoomFor, Steps, combines, divides};
 
 use crate::judgement::Step;
 use crate::parts::are_terms;
@@ -52,13 +51,8 @@ impl Model for Checker {
 
 impl Checker {
     /// A log of the goal before its first entry, and as much more room as is given. It takes all memory that is ever needed.
-    pub fn begin(
-        alloc: Global,
-        bank: &Bank,
-        goal: TermId,
-        room: Room,
-    ) -> Result<Checker, NoMemory>
-        requires { IsTerm bank.now goal × (is_claim (term bank.now goal) ≡ true) }
+    pub fn begin(alloc: Global, bank: &Bank, goal: TermId, room: Room) -> Result<Checker, NoMemory>
+        requires { IsBool bank.now goal }
         ensures state { IfOk result (λ c. state c ≡ begun (term bank.now goal)) }
         ensures room { IfOk result (λ c. rooms c ≡ both (taken c) room) }
     {
@@ -90,9 +84,8 @@ impl Checker {
         match entry {
             Entry::Term(node) => self.has_term_room(node),
             Entry::Fact(_, _, _, _) => self.has_item_room(0),
-            Entry::Linear(_, _, row) | Entry::Combine(_, _, _, _, row) | Entry::Divide(_, _, row) => {
-                self.has_item_room(row.parts.len())
-            }
+            Entry::Linear(_, _, row) | Entry::Combine(_, _, _, _, row) | Entry::Divide(_, _, row) =>
+                { self.has_item_room(row.parts.len()) }
             Entry::Split(_) => self.has_split_room(),
             Entry::Cut | Entry::Close(_) | Entry::Clash(_, _) => self.needs_none(),
         }
@@ -135,12 +128,21 @@ impl Checker {
                 self.linear(*p, *forward, row.constant, row.parts.as_slice())
             }
             Entry::Combine(m, p, n, q, row) => {
-                let first = Multiple { factor: *m, item: *p };
-                let second = Multiple { factor: *n, item: *q };
+                let first = Multiple {
+                    factor: *m,
+                    item: *p,
+                };
+                let second = Multiple {
+                    factor: *n,
+                    item: *q,
+                };
                 self.combine(first, second, row.constant, row.parts.as_slice())
             }
             Entry::Divide(d, p, row) => {
-                let divided = Multiple { factor: *d, item: *p };
+                let divided = Multiple {
+                    factor: *d,
+                    item: *p,
+                };
                 self.divide(divided, row.constant, row.parts.as_slice())
             }
             Entry::Split(n) => self.split(*n),
@@ -190,7 +192,15 @@ impl Checker {
         ensures { Steps self.old self.new (Linear p forward (made constant parts.now)) result }
     {
         self.branch.is_nested();
-        match as_its_form(&self.terms, &mut self.forms, &self.branch, p, forward, constant, parts) {
+        match as_its_form(
+            &self.terms,
+            &mut self.forms,
+            &self.branch,
+            p,
+            forward,
+            constant,
+            parts,
+        ) {
             Some(why) => Step::Rejected(why),
             None => {
                 self.branch.push_row(constant, parts);
@@ -206,8 +216,8 @@ impl Checker {
         constant: i128,
         parts: &[(i128, usize)],
     ) -> Step
-        requires { HasRoom self.old (Combine first.factor first.item second.factor second.item (made constant parts.now)) }
-        ensures { Steps self.old self.new (Combine first.factor first.item second.factor second.item (made constant parts.now)) result }
+        requires { HasRoom self.old (combines first second constant parts.now) }
+        ensures { Steps self.old self.new (combines first second constant parts.now) result }
     {
         self.branch.is_nested();
         match combine(&self.terms, &self.branch, first, second, constant, parts) {
@@ -220,8 +230,8 @@ impl Checker {
     }
 
     fn divide(&mut self, divided: Multiple, constant: i128, parts: &[(i128, usize)]) -> Step
-        requires { HasRoom self.old (Divide divided.factor divided.item (made constant parts.now)) }
-        ensures { Steps self.old self.new (Divide divided.factor divided.item (made constant parts.now)) result }
+        requires { HasRoom self.old (divides divided constant parts.now) }
+        ensures { Steps self.old self.new (divides divided constant parts.now) result }
     {
         self.branch.is_nested();
         match divide(&self.terms, &self.branch, divided, constant, parts) {

@@ -1,9 +1,7 @@
-ghost use Rattle.std.specs.Prelude.{◌≡◌, ◌+◌, ◌≤◌, [], false, vec_capacity, IfOk, IfSome};
+ghost use Rattle.std.specs.Prelude.{◌≡◌, ◌+◌, ◌≤◌, vec_capacity, IfOk, IfSome};
 ghost use Rattle.sv_list_room.specs.NumberLists.{numbers_in};
-ghost use Rattle.sv_force.specs.InForce.{FactOn, force};
-ghost use Rattle.sv_branch.specs.OpenBranches.{standing, with_held};
 ghost use Rattle.sv_term_room.specs.TermRows.{args_of};
-ghost use Rattle.sv_checker.specs.Checkers.{IsBesideAll};
+ghost use Rattle.sv_checker.specs.Checkers.{Suits, begun_branch};
 
 use std::alloc::Global;
 use sv_beside::{Beside, beside_all};
@@ -19,22 +17,14 @@ fn sum(taken: usize, more: usize) -> Result<usize, NoMemory>
 }
 
 /// What stands beside the terms, with room for so many more.
-pub(crate) fn beside_for(
-    alloc: Global,
-    terms: &TermRoom,
-    more: usize,
-) -> Result<Beside, NoMemory>
-    ensures { IfOk result (λ b. IsBesideAll terms.now more b.forms b.flags.items (vec_capacity b.flags)) }
+pub(crate) fn beside_for(alloc: Global, terms: &TermRoom, more: usize) -> Result<Beside, NoMemory>
+    ensures { IfOk result (λ b. Suits terms.now more b.forms b.flags.items (vec_capacity b.flags)) }
 {
     beside_all(alloc, terms, sum(terms.len(), more)?)
 }
 
 /// A list that takes the arguments of all terms and so many more.
-pub(crate) fn list_for(
-    alloc: Global,
-    terms: &TermRoom,
-    more: usize,
-) -> Result<Vec<usize>, NoMemory>
+pub(crate) fn list_for(alloc: Global, terms: &TermRoom, more: usize) -> Result<Vec<usize>, NoMemory>
     ensures { IfOk result (λ v. numbers_in (args_of terms.now.rows) + more ≤ vec_capacity v) }
 {
     let taken = args_taken(terms).ok_or(NoMemory)?;
@@ -55,7 +45,7 @@ fn args_taken(terms: &TermRoom) -> Option<usize>
 
 /// The fact that the term of the goal is false, and room for as much more as is given.
 pub(crate) fn branch_for(alloc: Global, goal: usize, more: Room) -> Result<Branch, NoMemory>
-    ensures { IfOk result (λ b. b ≡ with_held (FactOn false goal) (standing (force [] (1 + more.items) more.coefficients) [] more.splits false)) }
+    ensures { IfOk result (λ b. b ≡ begun_branch goal more) }
 {
     let mut branch = Branch::new(alloc, sum(1, more.items)?, more.coefficients, more.splits)?;
     branch.push_fact(false, goal);

@@ -1,17 +1,16 @@
 -- The form of an item in force.
-use Rattle.std.proofs.Common.{ℕ, ◌<◌, Bool, false, IsTrue, List, [], ◌∷◌, ◌≡◌, ◌↔◌, length, map, slice_get, Some, refl, sym, ◌∙◌, subst, arith}
+use Rattle.std.proofs.Common.{ℕ, ◌<◌, Bool, false, IsTrue, List, ◌≡◌, ◌↔◌, length, slice_get, Some, subst, arith}
 use Rattle.std.specs.List.{All, Contains}
 use lib.IntN.{ℤ}
 use Rattle.sv_term.specs.Terms.{Term}
 use Rattle.sv_term.specs.FactRules.{Fact, Says}
 use Rattle.sv_log.specs.LogEntries.{Row, Linear, columns}
 use Rattle.sv_log.specs.FormsOfTerms.{IsFormOf}
-use Rattle.sv_log.specs.Logs.{Known, Bound, IsAllowed, nth_term}
+use Rattle.sv_log.specs.Logs.{Bound, IsAllowed, nth_term}
 use Rattle.sv_log.specs.LogCauses.{IsFirstFault}
 use Rattle.sv_log.specs.LogCauses as l
 use Rattle.sv_force.specs.InForce.{Held, FactOn, RowOf}
 use Rattle.sv_branch.specs.OpenBranches.{Standing}
-use Rattle.sv_branch.specs.BranchTrees.{item_of, IsBelow}
 use Rattle.sv_branch.proofs.Asking.{questions_agree}
 use Rattle.sv_term_room.specs.TermRows.{TermRows, terms_of}
 use Rattle.sv_allowed.specs.EntryJudging.{stands, made}

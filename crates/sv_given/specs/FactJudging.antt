@@ -21,5 +21,5 @@ abbrev pub IsFormAt : List Term → List Held → ℕ → Bool → Row → Type 
 IsFormAt ts items p forward r = (f : Fact) × (slice_get (map (item_of ts) items) p ≡ Some (Known f)) × IsFormOf ts f forward r
 
 -- for every list of terms that these are the nodes of
-abbrev pub AnswersFormAt : List Linear → List Held → ℕ → Bool → Row → Bool → Type 0
-AnswersFormAt nodes items p forward r answer = (ts : List Term) → AreFormsOf ts nodes → IsTrue answer ↔ IsFormAt ts items p forward r
+abbrev pub Judged : List Linear → List Held → ℕ → Bool → Row → Bool → Type 0
+Judged nodes items p forward r answer = (ts : List Term) → AreFormsOf ts nodes → IsTrue answer ↔ IsFormAt ts items p forward r

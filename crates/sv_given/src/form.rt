@@ -3,7 +3,7 @@ ghost use Rattle.sv_log.specs.LogEntries.{Linear};
 ghost use Rattle.sv_term_room.specs.TermRows.{terms_of};
 ghost use Rattle.sv_form_rows.specs.TermForms.{AreFormsOf};
 ghost use Rattle.sv_allowed.specs.EntryJudging.{AreOver, Judges, stands, made};
-ghost use Rattle.sv_given.specs.FactJudging.{CanAskForm, AnswersFormAt};
+ghost use Rattle.sv_given.specs.FactJudging.{CanAskForm, Judged};
 
 use sv_allowed::{Why, are_columns};
 use sv_branch::Branch;
@@ -56,7 +56,7 @@ fn is_form_at(
 ) -> bool
     requires { CanAskForm forms.old.nodes force.now.items p }
     ensures same { forms.new ≡ forms.old }
-    ensures exact { AnswersFormAt forms.old.nodes force.now.items p forward (made constant parts.now) result }
+    ensures is { Judged forms.old.nodes force.now.items p forward (made constant parts.now) result }
 {
     match force.fact(p) {
         Some((sign, n)) => forms.is_form(sign, n, forward, constant, parts),

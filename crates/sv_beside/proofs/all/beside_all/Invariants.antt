@@ -1,4 +1,4 @@
-use Rattle.std.proofs.Common.{ℕ, ◌-◌, ◌≤◌, ◌≡◌, length, take, vec_capacity}
+use Rattle.std.proofs.Common.{◌-◌, ◌≤◌, ◌≡◌, length, take, vec_capacity}
 use Rattle.sv_term_room.specs.TermRows.{terms_of}
 use Rattle.sv_beside.specs.BesideTerms.{AreBeside}
 use Rattle.sv_beside.proofs.all.beside_all.Given as goal

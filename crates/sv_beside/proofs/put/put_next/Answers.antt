@@ -1,5 +1,4 @@
-use Rattle.std.proofs.Common.{◌<◌, ◌≡◌, length, arith, rules}
-use Rattle.sv_term_room.specs.TermRows.{terms_of}
+use Rattle.std.proofs.Common.{◌≡◌, length, arith, rules}
 use Rattle.sv_beside.proofs.Putting.{beside_next}
 use Rattle.sv_beside.proofs.put.put_next.Goals as goal
 

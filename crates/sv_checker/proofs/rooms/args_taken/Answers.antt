@@ -1,5 +1,5 @@
 use Rattle.std.proofs.Common.{◌≡◌, ◌+◌, length, arith, rules}
-use Rattle.sv_checker.proofs.Begins.{args_more}
+use Rattle.sv_checker.proofs.TakenArgs.{args_more}
 use Rattle.sv_checker.proofs.rooms.args_taken.Goals as goal
 
 pub loop-n-preserved : goal.loop-n-preserved

@@ -1,4 +1,4 @@
-use Rattle.std.proofs.Common.{◌<◌, ◌≡◌, false, sym, ◌∙◌, subst, length, arith, ap, rules}
+use Rattle.std.proofs.Common.{false, sym, ◌∙◌, subst, length, arith, ap, rules}
 use Rattle.std.specs.Int.{w128}
 use Rattle.std.proofs.lemmas.Int.{to_z-of_z}
 use Rattle.std.specs.List.{All}
@@ -23,7 +23,7 @@ returns-then-not-is_form_at-clause-judged c =
     let items = ap (λ (f : Force). length f.items) c.force-force.ensures in
     let low = c.if-p-len.false in
     let same = same_answer (terms_of c.args.terms.now) _ c.args.branch.now.force.items c.args.p c.args.forward _ c.args.constant c.args.parts.now c.is_form_at.result (ap (λ (f : Force). f.items) c.force-force.ensures)
-        (to_z-of_z w128 c.args.constant c.ranges.constant) (c.is_form_at.ensures.exact (terms_of c.args.terms.now) c.requires.forms) in
+    (to_z-of_z w128 c.args.constant c.ranges.constant) (c.is_form_at.ensures.is (terms_of c.args.terms.now) c.requires.forms) in
     form_fault c.args.terms.now c.args.branch.now (sym c.is_closed.ensures ∙ c.if-is_closed.false) c.args.p c.args.forward _ (search rules) (omega (arith, size, items, low)) (search rules)
     (λ h. cc (c.if-not-is_form_at.true, same.1 h))
 
@@ -33,6 +33,6 @@ returns-clause-judged c =
     let items = ap (λ (f : Force). length f.items) c.force-force.ensures in
     let low = c.if-p-len.false in
     let same = same_answer (terms_of c.args.terms.now) _ c.args.branch.now.force.items c.args.p c.args.forward _ c.args.constant c.args.parts.now c.is_form_at.result (ap (λ (f : Force). f.items) c.force-force.ensures)
-        (to_z-of_z w128 c.args.constant c.ranges.constant) (c.is_form_at.ensures.exact (terms_of c.args.terms.now) c.requires.forms) in
+    (to_z-of_z w128 c.args.constant c.ranges.constant) (c.is_form_at.ensures.is (terms_of c.args.terms.now) c.requires.forms) in
     form_allowed c.args.terms.now c.args.branch.now (sym c.is_closed.ensures ∙ c.if-is_closed.false) c.args.p c.args.forward _ (search rules) (omega (arith, size, items, low)) (search rules)
     (same.0 c.if-not-is_form_at.false)

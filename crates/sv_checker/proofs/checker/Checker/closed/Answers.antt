@@ -6,6 +6,6 @@ use Rattle.sv_checker.specs.Checkers.{Checking, state}
 use Rattle.sv_checker.proofs.checker.Checker.closed.Goals as goal
 
 pub returns : goal.returns
-returns c = 
+returns c =
     let d = questions_agree.done (terms_of c.self.inside.terms) c.self.inside.branch in
     subst (λ (v : Checking). IsTrue c.is_done.result ↔ IsClosed (state v)) c.self.view_is (λ h. d.0 (c.is_done.ensures.0 h), λ h. c.is_done.ensures.1 (d.1 h))

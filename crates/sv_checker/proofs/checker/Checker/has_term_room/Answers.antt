@@ -6,7 +6,7 @@ use Rattle.sv_checker.proofs.Rooming.{room_none, room_node, node_room}
 use Rattle.sv_checker.proofs.checker.Checker.has_term_room.Goals as goal
 
 pub returns : goal.returns
-returns c = 
+returns c =
     let node = plain_node c.args.node.now in
     subst (λ (v : Checking). IsTrue c.has_room.result ↔ HasRoomFor v (need_of_node node)) c.self.view_is (
       λ e. room_node (checking c.self.inside.terms c.self.inside.branch) node c.args.node.now.suited (room_none c.self.inside.terms c.self.inside.branch c.self.invariant.within) (c.has_room.ensures.0 e),
