@@ -12,7 +12,7 @@ use Rattle.sv_list_room.specs.NumberLists.{numbers_in}
 use Rattle.sv_sort_room.specs.SortCells.{sorts_of, IsNumber}
 use Rattle.sv_sort_room.specs.declared.cell.Cell.{Cell}
 use Rattle.sv_bank_sorts.specs.SortNumbering.{number_at, taken_by_all}
-use Rattle.sv_term_room.specs.TermRows.{TermRow, TermRows, term_rows, with_row, args_of, terms_of}
+use Rattle.sv_term_room.specs.TermRows.{TermRow, TermRows, term_rows, with_row, with_cells, args_of, terms_of}
 use Rattle.sv_term_room.specs.declared.shape.Shape.{Shape}
 use Rattle.sv_term_room.specs.declared.shape.Shape.TheVariants as s
 use Rattle.sv_room.specs.HeldRooms as held
@@ -85,6 +85,10 @@ pub record IsBegun (b : Nodes) (order : List TermId) (cells : List Cell) (more :
   pub terms : v.room ≡ length order + more.terms
   pub args : v.args_room ≡ args_in (term_list b order) + more.args
   pub sorts : v.sorts_room ≡ length v.cells + more.sorts
+
+-- these sorts are there, and nothing else is changed
+abbrev pub TakesCells : List Cell → TermRows → TermRows → Type 0
+TakesCells cells old new = (sorts_of new.cells ≡ sorts_of cells) × (new ≡ with_cells new.cells old)
 
 -- the room holds the terms before one, and has room for that
 pub record IsNext (b : Nodes) (order : List TermId) (numbers : List ℕ) (k : TermId) (v : TermRows) : Type 0 where

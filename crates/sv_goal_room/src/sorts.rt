@@ -1,9 +1,7 @@
 ghost use Rattle.std.specs.Prelude.{◌≡◌, ◌≤◌, [], length, IfOk};
 ghost use Rattle.sv_term.specs.Banks.{AreTerms};
-ghost use Rattle.sv_sort_room.specs.SortCells.{sorts_of};
 ghost use Rattle.sv_bank_sorts.specs.SortNumbering.{taken_by_all};
-ghost use Rattle.sv_term_room.specs.TermRows.{with_cells};
-ghost use Rattle.sv_goal_room.specs.GoalFilling.{AreNumbered};
+ghost use Rattle.sv_goal_room.specs.GoalFilling.{AreNumbered, TakesCells};
 
 use crate::size::sorts_in;
 use std::alloc::Global;
@@ -33,8 +31,7 @@ pub(crate) fn sorts_of(
 pub(crate) fn add_sorts(room: &mut TermRoom, sorts: &SortRoom)
     requires none { room.old.cells ≡ [] }
     requires room { length sorts.now.cells ≤ room.old.sorts_room }
-    ensures sorts { sorts_of room.new.cells ≡ sorts_of sorts.now.cells }
-    ensures rest { room.new ≡ with_cells room.new.cells room.old }
+    ensures { TakesCells sorts.now.cells room.old room.new }
 {
     sorts.is_sound();
     for number in 0..sorts.len() {

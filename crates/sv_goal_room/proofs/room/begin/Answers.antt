@@ -9,7 +9,7 @@ pub returns : goal.returns
 returns c =
     let args : c.in_ok-args.args ≡ args_in (term_list c.args.bank.now c.args.ids.now) = grind (arith, common_steps) in
     begins c.args.bank.now c.args.ids.now c.args.sorts.now.cells c.args.more c.in_ok-room.room c.add_sorts.new.room _ _ _
-    c.in_ok-room.ensures c.add_sorts.ensures.rest c.add_sorts.ensures.sorts
+    c.in_ok-room.ensures c.add_sorts.ensures.1 c.add_sorts.ensures.0
     c.in_ok-sum.ensures (c.in_ok-sum-2.ensures ∙ ap (λ n. n + c.args.more.args) args) (c.in_ok-sum-3.ensures ∙ ap (λ n. n + c.args.more.sorts) c.len.ensures)
 
 pub args_in-requires : goal.args_in-requires

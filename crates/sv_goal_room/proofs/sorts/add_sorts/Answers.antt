@@ -25,10 +25,7 @@ loop-number-preserved c = (
   cells_through c.args.room.now c.loop-number.room c.add_sort.new.self c.loop-number.invariant.1 c.add_sort.ensures.rest,
 )
 
-pub returns-clause-sorts : goal.returns-clause-sorts
-returns-clause-sorts c =
+pub returns : goal.returns
+returns c =
     let l : c.loop-number.number ≡ length c.args.sorts.now.cells = omega (arith, c.loop-number-test.false, c.loop-number.auto.number-end, c.len-number-end.ensures) in
-    all_sorts c.args.sorts.now.cells c.loop-number.room.cells c.loop-number.number c.loop-number.invariant.0 l
-
-pub returns-clause-rest : goal.returns-clause-rest
-returns-clause-rest c = c.loop-number.invariant.1
+    (all_sorts c.args.sorts.now.cells c.loop-number.room.cells c.loop-number.number c.loop-number.invariant.0 l, c.loop-number.invariant.1)
