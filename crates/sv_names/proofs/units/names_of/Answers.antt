@@ -11,8 +11,8 @@ use Rattle.sv_names.proofs.units.names_of.Goals as goal
 pub returns-clause-binds : goal.returns-clause-binds
 returns-clause-binds c =
     read_behind names_book (λ (k : Known). k.binds) (unit_walk c.args.unit.now)
-      (nothing_known c.args.names.now c.in_ok-text.text c.args.lines.now)
-      (nothing_known c.args.names.now (declared_text c.args.unit.now) c.args.lines.now)
-      (state_of c.begin-j.result) (state_of c.ask_unit.new.j)
-      (ap (λ (t : DeclaredText). nothing_known c.args.names.now t c.args.lines.now) c.in_ok-text.ensures)
-      c.begin-j.ensures c.in_ok-ask_unit.ensures.walked
+    (nothing_known c.args.names.now c.in_ok-text.text c.args.lines.now)
+    (nothing_known c.args.names.now (declared_text c.args.unit.now) c.args.lines.now)
+    (state_of c.begin-j.result) (state_of c.ask_unit.new.j)
+    (ap (λ (t : DeclaredText). nothing_known c.args.names.now t c.args.lines.now) c.in_ok-text.ensures)
+    c.begin-j.ensures c.in_ok-ask_unit.ensures.walked
