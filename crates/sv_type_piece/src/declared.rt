@@ -60,12 +60,7 @@ fn has_name(d: &Declaration, name: u32) -> bool
 }
 
 /// The declarations of a name in block `c`.
-fn named_in(
-    alloc: Global,
-    list: &[Declaration],
-    name: u32,
-    c: u32,
-) -> Result<Items<Hit>, NoMemory>
+fn named_in(alloc: Global, list: &[Declaration], name: u32, c: u32) -> Result<Items<Hit>, NoMemory>
     ensures { IfOk result (λ r. r ≡ named_from name c 0 list.now) }
 {
     let mut hits = Items::new(alloc);
@@ -80,11 +75,7 @@ fn named_in(
 }
 
 /// The type that the text declares by a name.
-fn type_of_text(
-    alloc: Global,
-    text: &DeclaredText,
-    name: u32,
-) -> Result<Option<TextType>, NoMemory>
+fn type_of_text(alloc: Global, text: &DeclaredText, name: u32) -> Result<Option<TextType>, NoMemory>
     ensures { IfOk result (λ r. r ≡ type_of_text text.now name) }
 {
     match contract_named(text.contracts.as_slice(), name)? {
