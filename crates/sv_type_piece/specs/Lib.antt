@@ -1,0 +1,3 @@
+pub mod ElementaryTypes
+pub mod ElementaryTables
+pub mod DeclaredTypes
