@@ -1,0 +1,2 @@
+pub mod TypeMeanings
+pub mod TypeStacks
