@@ -1,2 +1,0 @@
-pub mod TypeMeanings
-pub mod TypeStacks
