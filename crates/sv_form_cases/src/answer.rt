@@ -17,7 +17,7 @@ pub fn answer(alloc: Global, text: &str) -> Result<String, Error> {
     }
     let mut names = Names::new(alloc);
     match parse_unit(alloc, &tokens, &mut names) {
-        Ok(unit) => shown(alloc, forms(&unit, &names, 1)),
+        Ok(unit) => shown(alloc, forms(alloc, &unit, &names, 1)?),
         Err(_) => Ok(format!(in alloc; "a text without a tree")?),
     }
 }
