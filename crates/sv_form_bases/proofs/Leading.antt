@@ -1,9 +1,9 @@
 -- What is reached from the ends of a node's edges is what the node leads to.
-use Rattle.std.proofs.Common.{ℕ, zero, suc, ◌≡◌, ◌∙◌, ◌<◌, ◌≤◌, ◌↔◌, inl, inr, Bool, true, false, IsTrue, List, [], length, get_or, slice_index_or, refl, sym, ap, subst, arith}
+use Rattle.std.proofs.Common.{ℕ, zero, suc, ◌≡◌, ◌∙◌, ◌<◌, ◌↔◌, inl, inr, Bool, true, false, IsTrue, List, [], length, get_or, slice_index_or, sym, ap, subst, arith}
 use Rattle.std.specs.List.{Contains}
 use Rattle.std.proofs.lemmas.List.{get_or_past}
 use Rattle.std.proofs.lemmas.Bool.{cases_lt, false≢true}
-use Rattle.sv_reach.specs.Paths.{HasEdge, Path, IsReached, AreMarks}
+use Rattle.sv_reach.specs.Paths.{Path, IsReached, AreMarks}
 use Rattle.sv_form_bases.specs.EdgeGraphs.{Leads}
 
 -- an edge begins at a node, and so does a path that ends at one

@@ -1,5 +1,5 @@
 -- Serves the proof: the graph of a list of edges, and what a node of it leads to.
-use Rattle.std.specs.Prelude.{ℕ, suc, ◌≡◌, ◌<◌, ◌+◌, ◌⊎◌, cond, nat_eq, max, List, [], ◌∷◌, ◌++◌, length, slice_index_or, slice_set}
+use Rattle.std.specs.Prelude.{ℕ, suc, ◌≡◌, ◌<◌, ◌+◌, cond, nat_eq, max, List, [], ◌∷◌, ◌++◌, length, slice_index_or, slice_set}
 use Rattle.sv_reach.specs.Paths.{Path}
 use Rattle.sv_form_bases.specs.declared.graph.Edge.{Edge}
 

@@ -24,8 +24,12 @@ impl<'a> Model for Bases<'a> {
     ghost use Rattle.sv_ast.specs.declared.unit.UnitItem.{UnitItem as Item};
     ghost use Rattle.sv_form_bases.specs.EdgeGraphs.{IsGraphOf};
     ghost use Rattle.sv_form_bases.specs.BaseEdges.{edges_of as edges_in};
+    ghost use Rattle.std.specs.Coded.{codes};
+    ghost use Rattle.sv_ast.specs.contracts.unit.UnitItem as unit_item;
 
     ghost Value = { List Item };
+
+    ghost coded = { Prim.hlevel (codes, unit_item.the_row.coded) };
 
     ghost view = { λ b. b.items.now };
 
