@@ -45,7 +45,7 @@ has_target (e ∷ es) a b h = elim h [
   | inr k ↦ (
       let c = has_target es a b k in
       elim (nat_eq e.from a) as (λ x. Contains (cond x (e.to ∷ targets es a) (targets es a)) b) [ true ↦ at_next e.to b (targets es a) c | false ↦ c ]
-    )
+      )
 ]
 
 first_or_later : (x y : ℕ) (xs : List ℕ) (i : ℕ) → i < length (x ∷ xs) → slice_index_or (x ∷ xs) i y ≡ y → (x ≡ y) ⊎ Contains xs y
@@ -58,7 +58,7 @@ target_has (e ∷ es) a b c = elim (cases_eq e.from a) [
   | inl same ↦ (
       let d : Contains (e.to ∷ targets es a) b = subst (λ x. Contains (cond x (e.to ∷ targets es a) (targets es a)) b) (eq-eqb e.from a same) c in
       elim (first_or_later e.to b (targets es a) d.0 d.1 d.2) [ inl k ↦ inl (same, k) | inr k ↦ inr (target_has es a b k) ]
-    )
+      )
   | inr other ↦ inr (target_has es a b (subst (λ x. Contains (cond x (e.to ∷ targets es a) (targets es a)) b) (ne_eqb e.from a other) c))
 ]
 

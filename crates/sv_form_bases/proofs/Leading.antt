@@ -24,14 +24,13 @@ path_to g (suc n) a b p = path_to g n p.0 b p.2
 pub leads_by_marks : (g : List (List ℕ)) (a b : ℕ) (marks : List Bool) (r : Bool) → AreMarks (length g) (IsReached g (slice_index_or g a [])) marks → r ≡ get_or marks b false → IsTrue r ↔ Leads g a b
 leads_by_marks g a b marks r m e = elim (cases_lt b (length g)) [
   | inl l ↦ (
-      let here = m.1 b l in
-      (
+      let here = m.1 b l in (
         λ t. let p = here.0 (subst IsTrue e t) in (p.2.0, (p.0, (path_from g p.2.0 p.0 b p.2.1 l, p.1), p.2.1)),
         λ p. subst IsTrue (sym e) (here.1 (p.1.0, p.1.1.1, (p.0, p.1.2))),
       )
-    )
+      )
   | inr l ↦ (
-      λ t. absurd (let none = get_or_past marks b false (omega (arith, l, m.0)) in false≢true (sym (e ∙ none) ∙ t)),
-      λ p. absurd (let k = path_to g p.0 a b p.1 in omega (arith, k, l)),
-    )
+    λ t. absurd (let none = get_or_past marks b false (omega (arith, l, m.0)) in false≢true (sym (e ∙ none) ∙ t)),
+    λ p. absurd (let k = path_to g p.0 a b p.1 in omega (arith, k, l)),
+  )
 ]

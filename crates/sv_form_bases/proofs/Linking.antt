@@ -33,12 +33,12 @@ row_linked e g a l = elim (cases_eq e.from a) [
       let q = eq-eqb e.from a same in
       subst (λ x. get_or (linked e g) x [] ≡ get_or g x [] ++ cond (nat_eq e.from x) (e.to ∷ []) []) same
       (get_or-set_same g e.from (get_or g e.from [] ++ e.to ∷ []) [] l ∙ ap (λ b. get_or g e.from [] ++ cond b (e.to ∷ []) []) (sym (eq-eqb e.from e.from refl)))
-    )
+      )
   | inr other ↦ (
       get_or-set_other g e.from a (get_or g e.from [] ++ e.to ∷ []) [] (λ q. other (sym q))
       ∙ sym (append-nil (get_or g a []))
       ∙ ap (λ b. get_or g a [] ++ cond b (e.to ∷ []) []) (sym (ne_eqb e.from a other))
-    )
+      )
 ]
 
 targets_cons : (e : Edge) (es : List Edge) (a : ℕ) → targets (e ∷ es) a ≡ targets (e ∷ []) a ++ targets es a

@@ -54,12 +54,7 @@ impl<'a> Bases<'a> {
     }
 
     /// Whether a contract, if there is one around, has a base, direct or indirect.
-    pub fn has(
-        &self,
-        alloc: Global,
-        contract: Option<Name>,
-        base: Name,
-    ) -> Result<bool, NoMemory>
+    pub fn has(&self, alloc: Global, contract: Option<Name>, base: Name) -> Result<bool, NoMemory>
         ensures { IfOk result (λ r. r ≡ is_base_of self.now contract base) }
     {
         match contract {

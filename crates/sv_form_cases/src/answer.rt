@@ -12,7 +12,7 @@ use sv_text::Names;
 pub fn answer(alloc: Global, text: &str) -> Result<String, Error> {
     let text = text.replace(alloc, "\\n", "\n")?;
     let tokens = lex(alloc, text.as_bytes())?;
-    if deep(&tokens).is_some() {
+    if let Some(_place) = deep(&tokens) {
         return Ok(format!(in alloc; "a text that nests too deep")?);
     }
     let mut names = Names::new(alloc);

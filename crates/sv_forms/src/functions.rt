@@ -122,7 +122,13 @@ impl<'a> Forms<'a> {
     {
         let word = head_word(&h.kind);
         let mut around = self.around;
-        let no_base = is_no_base(self.alloc, &self.bases, around.contract, around.owner, &h.kind)?;
+        let no_base = is_no_base(
+            self.alloc,
+            &self.bases,
+            around.contract,
+            around.owner,
+            &h.kind,
+        )?;
         let mut marks = Marks::none();
         marks.head = word_contradicts(around.words, word) || no_base;
         around.words = with_optional(around.words, word);

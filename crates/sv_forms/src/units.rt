@@ -68,7 +68,7 @@ impl<'a> UnitJudge for Forms<'a> {
 
 /// Nothing is around, and nothing was asked.
 fn begin<'a>(alloc: Global, names: &'a Names, bases: Bases<'a>) -> Forms<'a>
-    ensures { state_of result ≡ begun (nothing_around names.now bases) }
+    ensures { state_of result ≡ begun (nothing_around names.now bases.entry) }
 {
     Forms {
         names,
