@@ -11,7 +11,7 @@ fn nth(ids: &[TermId], k: usize) -> Option<TermId>
 }
 
 /// The argument of a node at a place, from 0.
-pub(crate) fn arg(node: &Node, k: usize) -> Option<TermId>
+pub fn arg(node: &Node, k: usize) -> Option<TermId>
     ensures is { result ≡ slice_get (args node.now) k }
     ensures within { IfSome result (λ _. k + 1 < 2 ^ 64) }
 {

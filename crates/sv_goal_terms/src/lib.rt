@@ -8,6 +8,7 @@
 mod args;
 mod walk;
 
+pub use args::arg;
 pub use walk::GoalTerms;
 
 #[cfg(test)]

@@ -1,1 +1,4 @@
 pub mod Forming
+pub mod Growing
+pub mod NextNodes
+pub mod Telling

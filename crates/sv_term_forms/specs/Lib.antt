@@ -1,1 +1,3 @@
 pub mod FormLists
+pub mod NextTerms
+pub mod KeptNodes

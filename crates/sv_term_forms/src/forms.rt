@@ -3,8 +3,11 @@ ghost use Rattle.sv_log.specs.LogRows.{row};
 ghost use Rattle.sv_row.specs.RowParts.{monomials};
 ghost use Rattle.sv_form_rows.specs.TermForms.{AreFormsOf};
 ghost use Rattle.sv_term_forms.specs.FormLists.{form_list, AnswersForm};
+ghost use Rattle.sv_term_forms.specs.NextTerms.{IsNamedBelow, IsOneLonger, TakesIn};
 
 use crate::asking::is_form_of;
+use crate::form_node::FormNode;
+use crate::keeping::kept_of;
 use std::alloc::Global;
 use std::marker::Model;
 use sv_form::Linear;
@@ -64,6 +67,18 @@ impl Forms {
         ensures { result ≡ self.now.room }
     {
         self.room
+    }
+
+    /// Puts the node of one more term behind the others: one of which `node` tells, and that isn't among the terms of the nodes. It takes no memory.
+    pub fn push(&mut self, node: FormNode)
+        requires named { IsNamedBelow (length self.old.nodes) node }
+        requires room { length self.old.nodes < self.old.room }
+        ensures room { self.new.room ≡ self.old.room }
+        ensures behind { IsOneLonger self.old.nodes self.new.nodes }
+        ensures forms { TakesIn self.old.nodes node self.new.nodes }
+    {
+        let kept = kept_of(node, &self.nodes, &mut self.first, &mut self.second);
+        self.nodes.push(kept).unwrap();
     }
 
     /// Whether the row of the constant and the parts is the linear form of the fact that the comparison of number `n` is true, or false, as `sign` says.

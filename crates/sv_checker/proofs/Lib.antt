@@ -1,0 +1,6 @@
+pub mod Keeping
+pub mod Rooming
+pub mod NewTerms
+pub mod PartTerms
+pub mod Chains
+pub mod Begins

@@ -1,0 +1,2 @@
+pub mod Checkers
+pub mod CheckerLaws

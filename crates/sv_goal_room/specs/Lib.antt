@@ -1,0 +1,2 @@
+pub mod GoalRooms
+pub mod GoalFilling

@@ -1,0 +1,2 @@
+pub mod LocalScopes
+pub mod ScopeLaws

@@ -1,0 +1,2 @@
+pub mod NameUses
+pub mod NameBook
