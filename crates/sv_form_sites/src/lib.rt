@@ -5,14 +5,12 @@
 //! Read first: `specs/FormRules.antt` and `specs/FormKnown.antt` of `sv_form_book`.
 #![tactic(auto)]
 
-mod bases;
 mod contracts;
 mod heads;
 mod notes;
 mod statements;
 
-pub use bases::is_base_of;
-pub use contracts::{any_whole, is_interface, name_of};
+pub use contracts::{any_whole, bases_of, is_interface, name_of};
 pub use heads::{has_virtual_twice, head_word, var_word};
 pub use notes::{has_sender, is_another, note_inside, takes};
 pub use statements::{is_jump, is_loop, is_rest, is_unchecked};

@@ -37,21 +37,21 @@ known_from names items a = record {
 }
 
 abbrev pub known_of : Forms → Known
-known_of j = known_from j.names.now j.items.now j.around
+known_of j = known_from j.names.now j.bases j.around
 
 abbrev pub state_of : Forms → State Known Fault
 state_of j = record { known = known_of j; clear = j.pass.clear; least = j.pass.least }
 
 -- a node is entered, within which this is around
 abbrev pub entered : Forms → Around → State Known Fault
-entered j a = record { known = known_from j.names.now j.items.now a; clear = true; least = j.pass.least }
+entered j a = record { known = known_from j.names.now j.bases a; clear = true; least = j.pass.least }
 
 -- a declaration with words of its own is entered
 abbrev pub entered_owner : Forms → Owner → Notes → Rests → State Known Fault
 entered_owner j owner notes rests = record {
   known = record {
     names = j.names.now;
-    items = j.items.now;
+    items = j.bases;
     contract = j.around.contract;
     in_interface = j.around.in_interface;
     owner = owner;
@@ -69,7 +69,7 @@ entered_owner j owner notes rests = record {
 -- a node at a place is left, behind which this is around
 abbrev pub left : Forms → Around → Bool → Marks → Place → State Known Fault
 left j a before m place = record {
-  known = known_from j.names.now j.items.now a;
+  known = known_from j.names.now j.bases a;
   clear = before && (j.pass.clear && sound (marks_table place) group m);
   least = asked (marks_table place) group j.pass.clear j.pass.least m;
 }

@@ -5,8 +5,9 @@ ghost use Rattle.std.specs.Prelude.{◌≡◌};
 ghost use Rattle.sv_forms.specs.FormState.{state_of, entered, left, left_quiet};
 
 use crate::around::Around;
-use sv_ast::UnitItem;
+use std::alloc::Global;
 use sv_book::Pass;
+use sv_form_bases::Bases;
 use sv_form_marks::{Marks, close};
 use sv_rule::Fault;
 use sv_text::{Names, Place};
@@ -16,17 +17,15 @@ use sv_text::{Names, Place};
 pub struct Forms<'a> {
     /// The texts of names.
     pub names: &'a Names,
-    /// What stands in the text.
-    pub items: &'a [UnitItem],
+    /// What stands in the text, and who is whose base.
+    pub bases: Bases<'a>,
+    /// Where the search for a base takes memory.
+    pub alloc: Global,
     /// What is around.
     pub around: Around,
     /// The fault that counts so far.
     pub pass: Pass<Fault>,
 }
-
-/// Why it gives up: never.
-#[derive(Clone, Copy)]
-pub enum Never {}
 
 impl<'a> Forms<'a> {
     /// Enters a node, within which this is around; whether all was clear before.

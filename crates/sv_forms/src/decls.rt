@@ -5,11 +5,12 @@ ghost use Rattle.std.specs.Prelude.{◌≡◌};
 ghost use Rattle.sv_visit.specs.Sites.{OfVariable, OfWord, OfOver};
 ghost use Rattle.sv_forms.specs.FormState.{state_of, opened_at, closed_at};
 
-use crate::asker::{Forms, Never};
+use crate::asker::Forms;
 use sv_ast::{Over, VarWord, Variable};
 use sv_form_marks::Marks;
 use sv_form_rules::{Word, Words};
 use sv_form_sites::var_word;
+use sv_text::NoMemory;
 use sv_visit_decl::{DeclJudge, DeclNode};
 
 impl<'a> Forms<'a> {
@@ -45,7 +46,7 @@ impl<'a> Forms<'a> {
 }
 
 impl<'a> DeclJudge for Forms<'a> {
-    fn enter_decl(&mut self, site: DeclNode<'_>) -> Result<bool, Never> {
+    fn enter_decl(&mut self, site: DeclNode<'_>) -> Result<bool, NoMemory> {
         match site {
             DeclNode::Struct(_) => Ok(self.enter(self.around)),
             DeclNode::Field(_) => Ok(self.enter(self.around)),
@@ -61,7 +62,7 @@ impl<'a> DeclJudge for Forms<'a> {
         }
     }
 
-    fn leave_decl(&mut self, site: DeclNode<'_>, before: bool) -> Result<(), Never> {
+    fn leave_decl(&mut self, site: DeclNode<'_>, before: bool) -> Result<(), NoMemory> {
         match site {
             DeclNode::Struct(_) => self.leave_quiet(before),
             DeclNode::Field(_) => self.leave_quiet(before),

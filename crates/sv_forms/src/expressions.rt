@@ -9,14 +9,14 @@ ghost use Rattle.sv_form_book.specs.FormKnown.{Known as KnownHere};
 ghost use Rattle.sv_form_book.specs.FormRules.{forms_book};
 ghost use Rattle.sv_forms.specs.FormState.{state_of, expr_marks};
 
-use crate::asker::{Forms, Never};
+use crate::asker::Forms;
 use sv_annotation::calls_old;
 use sv_form_book::Inside;
 use sv_form_marks::Marks;
 use sv_form_rules::{assigns_inside, is_address_literal, is_wide, raises_others};
 use sv_form_sites::is_another;
 use sv_plain::view::{Kind, View};
-use sv_text::Names;
+use sv_text::{Names, NoMemory};
 use sv_visit::{Judge, Role, Use};
 
 /// Which rules an expression breaks, within an annotation or not.
@@ -33,7 +33,7 @@ fn marks_of(names: &Names, inside: Inside, role: Role, k: Kind<'_>) -> Marks
 }
 
 impl<'a> Judge for Forms<'a> {
-    type Stop = Never;
+    type Stop = NoMemory;
 
     ghost Known = { KnownHere };
 
@@ -45,17 +45,17 @@ impl<'a> Judge for Forms<'a> {
 
     ghost state = { state_of };
 
-    fn enter_expr(&mut self, _role: Role, _view: View<'_>) -> Result<bool, Never> {
+    fn enter_expr(&mut self, _role: Role, _view: View<'_>) -> Result<bool, NoMemory> {
         Ok(self.enter(self.around))
     }
 
-    fn leave_expr(&mut self, role: Role, view: View<'_>, before: bool) -> Result<(), Never> {
+    fn leave_expr(&mut self, role: Role, view: View<'_>, before: bool) -> Result<(), NoMemory> {
         let marks = marks_of(self.names, self.around.inside, role, view.kind);
         self.leave(self.around, before, marks, view.spot.place);
         Ok(())
     }
 
-    fn enter_use(&mut self, site: Use<'_>) -> Result<bool, Never> {
+    fn enter_use(&mut self, site: Use<'_>) -> Result<bool, NoMemory> {
         match site {
             Use::Type(_) => Ok(self.enter(self.around)),
             Use::Plain(_) => Ok(self.enter(self.around)),
@@ -63,7 +63,7 @@ impl<'a> Judge for Forms<'a> {
         }
     }
 
-    fn leave_use(&mut self, site: Use<'_>, before: bool) -> Result<(), Never> {
+    fn leave_use(&mut self, site: Use<'_>, before: bool) -> Result<(), NoMemory> {
         match site {
             Use::Type(_) => self.leave_quiet(before),
             Use::Plain(_) => self.leave_quiet(before),

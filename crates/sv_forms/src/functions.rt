@@ -1,19 +1,21 @@
 //! Functions, constructors and modifiers.
 #![tactic(auto)]
 
-ghost use Rattle.std.specs.Prelude.{◌≡◌};
+ghost use Rattle.std.specs.Prelude.{◌≡◌, IfOk, OnOk};
 ghost use Rattle.sv_visit.specs.Sites.{OfFunction, OfSpecial, OfModifier, OfHead};
 ghost use Rattle.sv_form_book.specs.FormKnown.{with_optional};
 ghost use Rattle.sv_form_book.specs.FormRules.{word_contradicts, is_no_base};
 ghost use Rattle.sv_forms.specs.FormState.{state_of, entered_owner, closed_at};
 
-use crate::asker::{Forms, Never};
-use sv_ast::{Function, Head, HeadKind, Modifier, Special, UnitItem};
+use crate::asker::Forms;
+use std::alloc::Global;
+use sv_ast::{Function, Head, HeadKind, Modifier, Special};
+use sv_form_bases::Bases;
 use sv_form_book::{Notes, Owner, Rests};
 use sv_form_marks::Marks;
 use sv_form_rules::{Word, Words, text_of};
-use sv_form_sites::{has_virtual_twice, head_word, is_base_of};
-use sv_text::{Name, Names};
+use sv_form_sites::{has_virtual_twice, head_word};
+use sv_text::{Name, Names, NoMemory};
 use sv_visit_decl::{FunctionJudge, FunctionNode};
 
 /// Whether a word contradicts those that stood.
@@ -37,16 +39,29 @@ fn with_optional(words: Words, word: Option<Word>) -> Words
 }
 
 /// Whether it is a modifier on a constructor that is no base.
-fn is_no_base(items: &[UnitItem], contract: Option<Name>, owner: Owner, k: &HeadKind) -> bool
-    ensures { result ≡ is_no_base items.now contract owner k.now }
+fn is_no_base(
+    alloc: Global,
+    bases: &Bases<'_>,
+    contract: Option<Name>,
+    owner: Owner,
+    k: &HeadKind,
+) -> Result<bool, NoMemory>
+    ensures { IfOk result (λ r. r ≡ is_no_base bases.now contract owner k.now) }
 {
     let in_constructor = match owner {
         Owner::Constructor => true,
         Owner::Function | Owner::Modifier => false,
     };
     match k {
-        HeadKind::Use { name, args: _ } => in_constructor && !is_base_of(items, contract, *name),
-        _ => false,
+        HeadKind::Use { name, args: _ } => {
+            if in_constructor {
+                let is_base = bases.has(alloc, contract, *name)?;
+                Ok(!is_base)
+            } else {
+                Ok(false)
+            }
+        }
+        _ => Ok(false),
     }
 }
 
@@ -102,21 +117,28 @@ impl<'a> Forms<'a> {
         self.leave(around, before, marks, m.place);
     }
 
-    fn leave_head(&mut self, h: &Head, before: bool)
-        ensures { state_of self.new ≡ closed_at self.old before (OfHead h.now) }
+    fn leave_head(&mut self, h: &Head, before: bool) -> Result<(), NoMemory>
+        ensures { OnOk result (state_of self.new ≡ closed_at self.old before (OfHead h.now)) }
     {
         let word = head_word(&h.kind);
         let mut around = self.around;
+        let no_base = is_no_base(
+            self.alloc,
+            &self.bases,
+            around.contract,
+            around.owner,
+            &h.kind,
+        )?;
         let mut marks = Marks::none();
-        marks.head = word_contradicts(around.words, word)
-            || is_no_base(self.items, around.contract, around.owner, &h.kind);
+        marks.head = word_contradicts(around.words, word) || no_base;
         around.words = with_optional(around.words, word);
         self.leave(around, before, marks, h.place);
+        Ok(())
     }
 }
 
 impl<'a> FunctionJudge for Forms<'a> {
-    fn enter_function(&mut self, site: FunctionNode<'_>) -> Result<bool, Never> {
+    fn enter_function(&mut self, site: FunctionNode<'_>) -> Result<bool, NoMemory> {
         let rests = self.around.rests;
         match site {
             FunctionNode::Function(_) => {
@@ -136,13 +158,13 @@ impl<'a> FunctionJudge for Forms<'a> {
         }
     }
 
-    fn leave_function(&mut self, site: FunctionNode<'_>, before: bool) -> Result<(), Never> {
+    fn leave_function(&mut self, site: FunctionNode<'_>, before: bool) -> Result<(), NoMemory> {
         match site {
             FunctionNode::Function(f) => self.leave_function_node(f, before),
             FunctionNode::Constructor(_) => self.leave_quiet(before),
             FunctionNode::Special(f) => self.leave_special(f, before),
             FunctionNode::Modifier(m) => self.leave_modifier(m, before),
-            FunctionNode::Head(h) => self.leave_head(h, before),
+            FunctionNode::Head(h) => self.leave_head(h, before)?,
         }
         Ok(())
     }

@@ -6,7 +6,7 @@ ghost use Rattle.sv_visit.specs.Sites.{Annotation, Simply};
 ghost use Rattle.sv_form_book.specs.FormKnown.{one_more};
 ghost use Rattle.sv_forms.specs.FormState.{state_of, opened_at, closed_at};
 
-use crate::asker::{Forms, Never};
+use crate::asker::Forms;
 use sv_annotation::fits;
 use sv_ast::{Note, Simple};
 use sv_form_book::{Inside, Owner, Rests};
@@ -14,7 +14,7 @@ use sv_form_marks::Marks;
 use sv_form_rules::text_of;
 use sv_form_sites::{has_sender, is_jump, is_rest, note_inside, takes};
 use sv_plain::view::Node;
-use sv_text::Names;
+use sv_text::{Names, NoMemory};
 use sv_visit_simple::{SimpleJudge, SimpleNode};
 
 /// One `_` more.
@@ -70,7 +70,7 @@ impl<'a> Forms<'a> {
 }
 
 impl<'a> SimpleJudge for Forms<'a> {
-    fn enter_simple(&mut self, site: SimpleNode<'_>) -> Result<bool, Never> {
+    fn enter_simple(&mut self, site: SimpleNode<'_>) -> Result<bool, NoMemory> {
         match site {
             SimpleNode::Note(n) => Ok(self.enter_note(n)),
             SimpleNode::Action(_) => Ok(self.enter(self.around)),
@@ -81,7 +81,7 @@ impl<'a> SimpleJudge for Forms<'a> {
         }
     }
 
-    fn leave_simple(&mut self, site: SimpleNode<'_>, before: bool) -> Result<(), Never> {
+    fn leave_simple(&mut self, site: SimpleNode<'_>, before: bool) -> Result<(), NoMemory> {
         match site {
             SimpleNode::Note(n) => self.leave_note(n, before),
             SimpleNode::Action(_) => self.leave_quiet(before),

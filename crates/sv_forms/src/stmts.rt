@@ -7,11 +7,12 @@ ghost use Rattle.sv_visit.specs.Sites.{Stating, Bracing};
 ghost use Rattle.sv_forms.specs.FormState.{state_of, opened_at, closed_at};
 
 use crate::around::more;
-use crate::asker::{Forms, Never};
+use crate::asker::Forms;
 use sv_ast::{Block, Stmt};
 use sv_form_book::Notes;
 use sv_form_marks::Marks;
 use sv_form_sites::{is_loop, is_unchecked};
+use sv_text::NoMemory;
 use sv_visit_stmt::{StmtJudge, StmtNode};
 
 impl<'a> Forms<'a> {
@@ -60,14 +61,14 @@ impl<'a> Forms<'a> {
 }
 
 impl<'a> StmtJudge for Forms<'a> {
-    fn enter_stmt(&mut self, site: StmtNode<'_>) -> Result<bool, Never> {
+    fn enter_stmt(&mut self, site: StmtNode<'_>) -> Result<bool, NoMemory> {
         match site {
             StmtNode::Stmt(s) => Ok(self.enter_statement(s)),
             StmtNode::Block(b) => Ok(self.enter_block(b)),
         }
     }
 
-    fn leave_stmt(&mut self, site: StmtNode<'_>, before: bool) -> Result<(), Never> {
+    fn leave_stmt(&mut self, site: StmtNode<'_>, before: bool) -> Result<(), NoMemory> {
         match site {
             StmtNode::Stmt(s) => self.leave_any_statement(s, before),
             StmtNode::Block(b) => self.leave_block(b, before),

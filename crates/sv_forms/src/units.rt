@@ -1,7 +1,7 @@
 //! Contracts, and the whole text.
 #![tactic(auto)]
 
-ghost use Rattle.std.specs.Prelude.{◌≡◌};
+ghost use Rattle.std.specs.Prelude.{◌≡◌, IfOk};
 ghost use Rattle.sv_book.specs.Books.{Least, seen};
 ghost use Rattle.sv_book.specs.Visits.{begun};
 ghost use Rattle.sv_visit.specs.Sites.{OfContract, OfText};
@@ -11,15 +11,17 @@ ghost use Rattle.sv_form_book.specs.FormRules.{forms_book, forms_table};
 ghost use Rattle.sv_forms.specs.FormState.{state_of, opened_at, closed_at};
 
 use crate::around::Around;
-use crate::asker::{Forms, Never};
+use crate::asker::Forms;
+use std::alloc::Global;
 use sv_ast::{Contract, Unit};
 use sv_book::Pass;
+use sv_form_bases::Bases;
 use sv_form_book::{Inside, Notes, Owner, Rests};
 use sv_form_marks::Marks;
 use sv_form_rules::Words;
 use sv_form_sites::{any_whole, is_interface, name_of};
 use sv_rule::{Fault, laws};
-use sv_text::{Names, Place};
+use sv_text::{Names, NoMemory, Place};
 use sv_visit_unit::{UnitJudge, UnitNode, ask_unit};
 
 impl<'a> Forms<'a> {
@@ -44,7 +46,7 @@ impl<'a> Forms<'a> {
 }
 
 impl<'a> UnitJudge for Forms<'a> {
-    fn enter_unit(&mut self, site: UnitNode<'_>) -> Result<bool, Never> {
+    fn enter_unit(&mut self, site: UnitNode<'_>) -> Result<bool, NoMemory> {
         match site {
             UnitNode::Text(_) => Ok(self.enter(self.around)),
             UnitNode::Constant(_) => Ok(self.enter(self.around)),
@@ -53,7 +55,7 @@ impl<'a> UnitJudge for Forms<'a> {
         }
     }
 
-    fn leave_unit(&mut self, site: UnitNode<'_>, before: bool) -> Result<(), Never> {
+    fn leave_unit(&mut self, site: UnitNode<'_>, before: bool) -> Result<(), NoMemory> {
         match site {
             UnitNode::Text(u) => self.leave_text(u, before),
             UnitNode::Constant(_) => self.leave_quiet(before),
@@ -65,12 +67,13 @@ impl<'a> UnitJudge for Forms<'a> {
 }
 
 /// Nothing is around, and nothing was asked.
-fn begin<'a>(names: &'a Names, unit: &'a Unit) -> Forms<'a>
-    ensures { state_of result ≡ begun (nothing_around names.now unit.now.items) }
+fn begin<'a>(alloc: Global, names: &'a Names, bases: Bases<'a>) -> Forms<'a>
+    ensures { state_of result ≡ begun (nothing_around names.now bases.entry) }
 {
     Forms {
         names,
-        items: unit.items.as_slice(),
+        bases,
+        alloc,
         around: Around {
             contract: None,
             in_interface: false,
@@ -91,14 +94,18 @@ fn begin<'a>(names: &'a Names, unit: &'a Unit) -> Forms<'a>
 
 /// The broken rule of the first group that counts, at its node: of those whose node has no part that breaks one of the group, the
 /// first by place and number; none where no rule of the group is broken. The profile is 1, the only one so far.
-pub fn forms(unit: &Unit, names: &Names, _profile: u8) -> Option<Fault>
+pub fn forms(
+    alloc: Global,
+    unit: &Unit,
+    names: &Names,
+    _profile: u8,
+) -> Result<Option<Fault>, NoMemory>
     requires { _profile ≡ 1 }
-    ensures { Least forms_table (seen forms_book (nothing_around names.now unit.now.items) (unit_walk unit.now)) result }
+    ensures { IfOk result (Least forms_table (seen forms_book (nothing_around names.now unit.now.items) (unit_walk unit.now))) }
 {
-    let mut j = begin(names, unit);
+    let bases = Bases::new(alloc, unit.items.as_slice())?;
+    let mut j = begin(alloc, names, bases);
     laws::faults_are_ordered();
-    match ask_unit(&mut j, unit) {
-        Ok(()) => j.pass.least,
-        Err(never) => match never {},
-    }
+    ask_unit(&mut j, unit)?;
+    Ok(j.pass.least)
 }

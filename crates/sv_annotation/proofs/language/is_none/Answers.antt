@@ -1,0 +1,10 @@
+use Rattle.std.proofs.Common.{arith}
+use Rattle.std.proofs.lemmas.Grind.{common_steps}
+use Rattle.sv_plain.proofs.ExprViews.{parts}
+use Rattle.sv_annotation.proofs.language.is_none.Goals as goal
+
+pub returns-in-None : goal.returns-in-None
+returns-in-None c = grind (arith, common_steps, parts)
+
+pub returns-in-Some : goal.returns-in-Some
+returns-in-Some c = grind (arith, common_steps, parts)

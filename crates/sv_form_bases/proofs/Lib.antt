@@ -1,0 +1,5 @@
+mod Linking
+mod Leading
+mod Ends
+mod Settling
+mod Chains

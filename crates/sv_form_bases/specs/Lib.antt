@@ -1,0 +1,2 @@
+pub mod EdgeGraphs
+pub mod BaseEdges

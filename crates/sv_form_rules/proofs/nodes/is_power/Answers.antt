@@ -1,0 +1,10 @@
+use Rattle.std.proofs.Common.{arith}
+use Rattle.std.proofs.lemmas.Grind.{common_steps}
+use Rattle.sv_plain.proofs.ExprViews.{parts}
+use Rattle.sv_form_rules.proofs.nodes.is_power.Goals as goal
+
+pub returns-in-Power : goal.returns-in-Power
+returns-in-Power c = grind (arith, common_steps, parts)
+
+pub returns-in_default : goal.returns-in_default
+returns-in_default c = grind (arith, common_steps, parts)

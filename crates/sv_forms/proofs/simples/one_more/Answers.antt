@@ -1,0 +1,9 @@
+use Rattle.std.proofs.Common.{arith, rules}
+use Rattle.std.proofs.lemmas.Grind.{common_steps}
+use Rattle.sv_forms.proofs.simples.one_more.Goals as goal
+
+pub returns-in-None : goal.returns-in-None
+returns-in-None c = first_of (grind (arith, common_steps), search rules)
+
+pub returns-in-One : goal.returns-in-One
+returns-in-One c = first_of (grind (arith, common_steps), search rules)
